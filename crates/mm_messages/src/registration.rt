@@ -1,0 +1,157 @@
+//! The messages of registration.
+ghost use Rattle.std.specs.Prelude.{◌≡◌, ◌≤◌, ◌++◌, length};
+ghost use Rattle.nas_base.specs.Writing.{Writes, lve, optional_tlv};
+ghost use Rattle.mm_messages.specs.Parts.{Decodes};
+ghost use Rattle.mm_messages.specs.Registration.{registration_reject, registration_reject_at, registration_request, registration_request_at, registration_type_code, registration_type_of};
+
+use crate::identity::IdentityRefusal;
+use crate::message::{EPD_5GMM, PLAIN};
+use crate::packed::two_halves;
+use crate::{Capability, Identity, Mm, MmRefusal};
+use nas_base::{Full, Ksi, Reader, Writer};
+use std::alloc::Global;
+
+/// The message type of REGISTRATION REQUEST.
+pub const REGISTRATION_REQUEST: u8 = 0x41;
+
+/// The message type of REGISTRATION REJECT.
+pub const REGISTRATION_REJECT: u8 = 0x44;
+
+// The identifier of the UE security capability.
+const UE_SECURITY_CAPABILITY: u8 = 0x2e;
+
+// A follow-on request is pending: bit 4 beside the registration type.
+const FOLLOW_ON: u8 = 8;
+
+/// The 5GS registration type (TS 24.501 clause 9.11.3.7).
+#[derive(Clone, Copy, Debug, PartialEq, Eq)]
+pub enum RegistrationType {
+    Initial,
+    Mobility,
+    Periodic,
+    Emergency,
+}
+
+impl RegistrationType {
+    // Its three bits.
+    fn code(self) -> u8
+        ensures { result ≡ registration_type_code self }
+    {
+        match self {
+            RegistrationType::Initial => 1,
+            RegistrationType::Mobility => 2,
+            RegistrationType::Periodic => 3,
+            RegistrationType::Emergency => 4,
+        }
+    }
+
+    // The type of three bits. The reserved values are read as an initial registration.
+    fn of(code: u8) -> RegistrationType
+        ensures { result ≡ registration_type_of code }
+    {
+        match code {
+            2 => RegistrationType::Mobility,
+            3 => RegistrationType::Periodic,
+            4 => RegistrationType::Emergency,
+            _ => RegistrationType::Initial,
+        }
+    }
+}
+
+/// Reads what stands behind the head of a REGISTRATION REQUEST, up to its identity.
+#[tactic(auto, unfolding(crate::specs::Registration::registration_request_at))]
+pub fn read_request(alloc: Global, reader: &mut Reader) -> Result<Mm, MmRefusal>
+    ensures { Decodes result (registration_request_at reader.old) }
+{
+    let (low, high) = reader.half().map_err(|short| MmRefusal::Mandatory {
+        part: 1,
+        at: short.at,
+    })?;
+    let at = reader.place();
+    let octets = reader.lve().map_err(|short| MmRefusal::Mandatory {
+        part: 2,
+        at: short.at,
+    })?;
+    let identity = match Identity::read(alloc, octets) {
+        Ok(identity) => identity,
+        Err(IdentityRefusal::Wrong) => return Err(MmRefusal::Mandatory { part: 2, at }),
+        Err(IdentityRefusal::Memory) => return Err(MmRefusal::Memory),
+    };
+    Ok(Mm::RegistrationRequest {
+        registration: RegistrationType::of(low % 8),
+        ksi: Ksi(high % 8),
+        identity,
+        capability: None,
+    })
+}
+
+/// Writes a REGISTRATION REQUEST.
+#[tactic(auto, unfolding(crate::specs::Registration::registration_request))]
+pub fn write_request(
+    registration: RegistrationType,
+    ksi: Ksi,
+    identity: &Identity,
+    capability: &Option<Capability>,
+    out: &mut Writer,
+) -> Result<(), Full>
+    ensures { Writes (registration_request registration ksi identity.now capability.now) out.old out.new result }
+{
+    let start = [
+        EPD_5GMM,
+        PLAIN,
+        REGISTRATION_REQUEST,
+        two_halves(registration.code() + FOLLOW_ON, ksi.0),
+    ];
+    match identity {
+        Identity::Suci(suci) => write_parts(&start, suci.octets().as_slice(), capability, out),
+        Identity::Other(octets) => write_parts(&start, octets.as_slice(), capability, out),
+    }
+}
+
+// Writes the start, the identity and the capability, all or none.
+fn write_parts(
+    start: &[u8],
+    identity: &[u8],
+    capability: &Option<Capability>,
+    out: &mut Writer,
+) -> Result<(), Full>
+    requires start { length start.now ≡ 4 }
+    requires identity { length identity.now ≤ 4100 }
+    ensures { Writes (start.now ++ (lve identity.now ++ optional_tlv 0x2e capability.now)) out.old out.new result }
+{
+    match capability {
+        None => {
+            out.fits(6 + identity.len())?;
+            out.put(start)?;
+            out.lve(identity)
+        }
+        Some(capability) => {
+            let octets = capability.as_slice();
+            out.fits(8 + identity.len() + octets.len())?;
+            out.put(start)?;
+            out.lve(identity)?;
+            out.put(&[UE_SECURITY_CAPABILITY])?;
+            out.lv(octets)
+        }
+    }
+}
+
+/// Reads what stands behind the head of a REGISTRATION REJECT.
+#[tactic(auto, unfolding(crate::specs::Registration::registration_reject_at))]
+pub fn read_reject(reader: &mut Reader) -> Result<Mm, MmRefusal>
+    ensures { Decodes result (registration_reject_at reader.old) }
+{
+    let cause = reader.take(1).map_err(|short| MmRefusal::Mandatory {
+        part: 1,
+        at: short.at,
+    })?;
+    Ok(Mm::RegistrationReject { cause: cause[0] })
+}
+
+/// Writes a REGISTRATION REJECT.
+#[tactic(auto, unfolding(crate::specs::Registration::registration_reject))]
+pub fn write_reject(cause: u8, out: &mut Writer) -> Result<(), Full>
+    ensures { Writes (registration_reject cause) out.old out.new result }
+{
+    out.put(&[EPD_5GMM, PLAIN, REGISTRATION_REJECT, cause])
+}

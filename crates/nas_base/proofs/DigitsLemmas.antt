@@ -1,0 +1,14 @@
+-- What holds of digits: the last of them, and two lists one behind the other.
+use Rattle.std.proofs.Common.{◌≡◌, ℕ, zero, suc, ◌+◌, ◌<◌, ◌≤◌, true, List, [], ◌∷◌, ◌++◌, length, drop, is_some, arith}
+use Rattle.std.proofs.lemmas.List.Folds.{list_all-append}
+use Rattle.std.proofs.lemmas.Bool.Decides.{nat_tests}
+use Rattle.std.proofs.lemmas.Grind.{common_steps}
+use Rattle.nas_base.specs.Digits.{all_digits, are_digits, digits_from}
+
+pub all_digits-drop : (count : ℕ) (ds : List ℕ) → all_digits ds ≡ true → all_digits (drop count ds) ≡ true
+all_digits-drop zero ds h = h
+all_digits-drop (suc count) [] h = h
+all_digits-drop (suc count) (d ∷ ds) h = all_digits-drop count ds (grind (arith, nat_tests))
+
+pub digits_behind : (count : ℕ) (ds : List ℕ) → count < length ds → are_digits 1 15 ds ≡ true → is_some (digits_from (drop count ds)) ≡ true
+digits_behind count ds some h = grind (arith, nat_tests, common_steps, all_digits-drop)

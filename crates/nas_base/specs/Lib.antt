@@ -1,0 +1,8 @@
+pub mod Digits
+pub mod Octets
+pub mod Outside
+pub mod Plmn
+pub mod Reading
+pub mod Sinks
+pub mod Supi
+pub mod Writing

@@ -1,0 +1,31 @@
+//! What every other crate of the workspace stands on: octets, a reader and a writer over them, the small values of
+//! the 5GS Non-Access Stratum, and the sink that all output goes to.
+#![tactic(auto)]
+
+mod cause;
+mod count;
+mod digits;
+mod kind;
+mod ksi;
+mod memory;
+mod octets;
+mod outside;
+mod plmn;
+mod reader;
+mod sinks;
+mod supi;
+mod writer;
+
+pub use crate::cause::ILLEGAL_UE;
+pub use crate::count::{Count, Dir};
+pub use crate::digits::Digits;
+pub use crate::kind::Kind;
+pub use crate::ksi::Ksi;
+pub use crate::memory::Memory;
+pub use crate::octets::{Octets, Octets1M, OctetsRefusal};
+pub use crate::outside::{Sink, WriteRefusal};
+pub use crate::plmn::Plmn;
+pub use crate::reader::{Reader, Short};
+pub use crate::sinks::{FaultySink, MemorySink};
+pub use crate::supi::Supi;
+pub use crate::writer::{Full, Writer};

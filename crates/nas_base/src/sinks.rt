@@ -1,0 +1,120 @@
+//! Sinks in memory.
+ghost use Rattle.std.specs.Prelude.{◌≡◌, [], ◌++◌, take, ◌/◌, ◌+◌, length, OnOk, OnErr};
+
+use crate::{Sink, WriteRefusal};
+use std::alloc::Global;
+use std::marker::Model;
+
+/// A sink in memory that never fails.
+#[derive(Drop)]
+pub struct MemorySink {
+    octets: Vec<u8>,
+}
+
+impl Model for MemorySink {
+    ghost use Rattle.std.specs.Prelude.{ℕ, List};
+
+    ghost Value = { List ℕ };
+
+    ghost view = { λ s. s.octets.items };
+}
+
+impl MemorySink {
+    /// A sink to which nothing was written.
+    pub fn new(alloc: Global) -> MemorySink
+        ensures { result ≡ [] }
+    {
+        MemorySink {
+            octets: Vec::new(alloc),
+        }
+    }
+
+    /// The octets that were written.
+    pub fn octets(&self) -> &[u8]
+        ensures { result.now ≡ self.now }
+    {
+        self.octets.as_slice()
+    }
+}
+
+impl Sink for MemorySink {
+    ghost use Rattle.std.specs.Prelude.{Some};
+
+    ghost written = { λ s. Some s };
+
+    ghost fault_count = { λ _. 0 };
+
+    fn write(&mut self, octets: &[u8]) -> Result<(), WriteRefusal> {
+        match self.octets.extend_from_slice(octets) {
+            Ok(()) => Ok(()),
+            Err(_) => Err(WriteRefusal::Memory),
+        }
+    }
+
+    fn faults(&self) -> u64 {
+        0
+    }
+}
+
+/// A sink in memory with a list of the calls that are to fail. A call that fails writes the first half of its octets.
+#[derive(Drop)]
+pub struct FaultySink {
+    octets: Vec<u8>,
+    failing: Vec<u64>,
+    calls: u64,
+    faults: u64,
+}
+
+impl Model for FaultySink {
+    ghost use Rattle.nas_base.specs.Sinks.{Trial};
+
+    ghost Value = { Trial };
+
+    ghost view = { λ s. record { written = s.octets.items; failing = s.failing.items; calls = s.calls; faults = s.faults } };
+}
+
+impl FaultySink {
+    /// A sink to which nothing was written. Of its writes, counted from 1, those in `failing` are to fail.
+    pub fn new(alloc: Global, failing: Vec<u64>) -> FaultySink
+        ensures { result ≡ record { written = []; failing = failing.items; calls = 0; faults = 0 } }
+    {
+        FaultySink {
+            octets: Vec::new(alloc),
+            failing,
+            calls: 0,
+            faults: 0,
+        }
+    }
+
+    /// The octets that were written.
+    pub fn octets(&self) -> &[u8]
+        ensures { result.now ≡ self.now.written }
+    {
+        self.octets.as_slice()
+    }
+}
+
+impl Sink for FaultySink {
+    ghost use Rattle.std.specs.Prelude.{Some};
+
+    ghost written = { λ s. Some s.written };
+
+    ghost fault_count = { λ s. s.faults };
+
+    fn write(&mut self, octets: &[u8]) -> Result<(), WriteRefusal> {
+        self.calls = self.calls.saturating_add(1);
+        if self.failing.contains(&self.calls) {
+            self.faults = self.faults.saturating_add(1);
+            let _ = self.octets.extend_from_slice(&octets[..octets.len() / 2]);
+            return Err(WriteRefusal::Failed);
+        }
+        match self.octets.extend_from_slice(octets) {
+            Ok(()) => Ok(()),
+            Err(_) => Err(WriteRefusal::Memory),
+        }
+    }
+
+    fn faults(&self) -> u64 {
+        self.faults
+    }
+}
