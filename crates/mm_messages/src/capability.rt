@@ -49,7 +49,8 @@ impl Capability {
 
     /// An equal value.
     pub fn copy(&self) -> Capability
-        ensures { result ≡ self.now }
+        ensures value { result ≡ self.now }
+        ensures limit { length result ≤ 8 }
     {
         let _ = &self.items;
         Capability::from_slice(self.as_slice()).unwrap()

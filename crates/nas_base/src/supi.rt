@@ -1,5 +1,6 @@
 //! The identity of a subscriber.
 ghost use Rattle.std.specs.Prelude.{◌≡◌, true};
+ghost use Rattle.nas_base.specs.Digits.{are_digits};
 ghost use Rattle.nas_base.specs.Supi.{is_of_plmn, msin_of, supi_from};
 
 use crate::{Digits, Plmn};
@@ -53,9 +54,12 @@ impl Supi {
     }
 
     /// The MSIN: the 9 or 10 digits behind those of the network.
+    #[tactic(auto, using(crate::proofs::DigitsLemmas::digits_of_msin))]
     pub fn msin(&self, plmn: &Plmn) -> Digits
-        ensures { result ≡ msin_of plmn.now self.now }
+        ensures value { result ≡ msin_of plmn.now self.now }
+        ensures digits { are_digits 9 10 result ≡ true }
     {
+        let _ = &plmn.mcc;
         self.0.behind(plmn.digits().as_slice().len())
     }
 }

@@ -1,13 +1,7 @@
-// A library with one function.
+//! The files of a run: the configuration and the script that it reads, and the transcript that it writes.
 #![tactic(auto)]
 
-ghost use Rattle.std.specs.Prelude.{◌≡◌};
-ghost use Rattle.nas_script.specs.Echo.{echo_of};
+mod event_text;
+mod telling;
 
-// The `ensures` clause is the contract: what `echo` returns is `echo_of` of its argument, a definition
-// in `specs/Echo.antt`, which a caller's clause can cite too.
-pub fn echo(x: usize) -> usize
-    ensures { result ≡ echo_of x }
-{
-    x
-}
+pub use crate::telling::{TranscriptFault, transcript};

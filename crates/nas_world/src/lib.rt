@@ -1,13 +1,19 @@
-// A library with one function.
+//! Both ends together, with the log of what each has sent: a handset, a network, and the events that a script makes
+//! happen between them.
 #![tactic(auto)]
 
-ghost use Rattle.std.specs.Prelude.{◌≡◌};
-ghost use Rattle.nas_world.specs.Echo.{echo_of};
+mod config;
+mod event;
+mod handset;
+mod network;
+mod script;
+mod seen;
+mod send;
+mod world;
 
-// The `ensures` clause is the contract: what `echo` returns is `echo_of` of its argument, a definition
-// in `specs/Echo.antt`, which a caller's clause can cite too.
-pub fn echo(x: usize) -> usize
-    ensures { result ≡ echo_of x }
-{
-    x
-}
+pub use crate::config::{HandsetConfig, NetConfig, Subscriber, Subscribers, WorldConfig};
+pub use crate::event::{Event, RefusedWord, UeCommand};
+pub use crate::script::{Script, ScriptLine};
+pub use crate::seen::Seen;
+pub use crate::send::{Send, Sends, SentLog};
+pub use crate::world::World;

@@ -1,5 +1,5 @@
 -- The first half was written, or nothing where memory ran out.
-use Rattle.std.proofs.Common.{◌≡◌, length, ◌/◌, arith, ap}
+use Rattle.std.proofs.Common.{length, ◌/◌, arith, ap}
 use Rattle.std.specs.Prelude.{is_ok}
 use Rattle.std.proofs.lemmas.Grind.{common_steps}
 use Rattle.nas_base.specs.Sinks.{Trial}

@@ -1,0 +1,176 @@
+//! The lines of one event.
+ghost use Rattle.std.specs.Prelude.{◌≡◌, ◌+◌, ◌^◌, ◌<◌, ◌≤◌, ◌++◌, length, drop, OnOk, IfOk};
+ghost use Rattle.nas_world.specs.World.{agree, honest};
+ghost use Rattle.nas_script.specs.Transcript.{end_text, event_text, line_text, nothing_text, refused_text, sent_text, sents_text, ue_text, verdict_text, word_of, world_text};
+
+use nas_base::Memory;
+use nas_world::{RefusedWord, Seen, Send, World};
+use std::alloc::Global;
+
+/// Appends octets to a text.
+pub fn append(text: &mut Vec<u8>, octets: &[u8]) -> Result<(), Memory>
+    ensures { OnOk result (text.new.items ≡ text.old.items ++ octets.now) }
+{
+    match text.extend_from_slice(octets) {
+        Ok(()) => Ok(()),
+        Err(_) => Err(Memory),
+    }
+}
+
+// Appends the first line of an event.
+#[tactic(auto, unfolding(crate::specs::Transcript::line_text))]
+fn append_line(alloc: Global, text: &mut Vec<u8>, number: u32, line: &[u8]) -> Result<(), Memory>
+    ensures { OnOk result (text.new.items ≡ text.old.items ++ line_text number line.now) }
+{
+    let Ok(digits) = format!(in alloc; "{number} ") else {
+        return Err(Memory);
+    };
+    append(text, digits.as_bytes())?;
+    append(text, line)?;
+    append(text, b"\n")
+}
+
+// Appends the line of a message.
+#[tactic(auto, unfolding(crate::specs::Transcript::sent_text))]
+fn append_sent(
+    alloc: Global,
+    text: &mut Vec<u8>,
+    way: &str,
+    number: usize,
+    send: &Send,
+) -> Result<(), Memory>
+    ensures { OnOk result (text.new.items ≡ text.old.items ++ sent_text way.now number send.now) }
+{
+    let Ok(hex) = hex::encode(alloc, send.octets.as_slice()) else {
+        return Err(Memory);
+    };
+    let Ok(line) = format!(in alloc; "  {way} {number} {hex}\n") else {
+        return Err(Memory);
+    };
+    append(text, line.as_bytes())
+}
+
+// Appends the lines of the messages that were sent since there were `before` of them.
+fn append_newly_sent(
+    alloc: Global,
+    text: &mut Vec<u8>,
+    way: &str,
+    before: usize,
+    sends: &[Send],
+) -> Result<(), Memory>
+    requires { before ≤ length sends.now }
+    ensures { OnOk result (text.new.items ≡ text.old.items ++ sents_text way.now (before + 1) (drop before sends.now)) }
+{
+    for number in before..sends.len() {
+        append_sent(alloc, text, way, number + 1, &sends[number])?;
+    }
+    Ok(())
+}
+
+// Appends the line of a refusal, where there was one.
+#[tactic(auto, unfolding(crate::specs::Transcript::refused_text))]
+fn append_refused(text: &mut Vec<u8>, refused: &Option<RefusedWord>) -> Result<(), Memory>
+    ensures { OnOk result (text.new.items ≡ text.old.items ++ refused_text refused.now) }
+{
+    match refused {
+        None => Ok(()),
+        Some(RefusedWord::WrongState) => append(text, b"  refused WrongState\n"),
+    }
+}
+
+// Appends the line of an event that did nothing, where it is so.
+#[tactic(auto, unfolding(crate::specs::Transcript::nothing_text))]
+fn append_nothing(text: &mut Vec<u8>, nothing: bool) -> Result<(), Memory>
+    ensures { OnOk result (text.new.items ≡ text.old.items ++ nothing_text nothing) }
+{
+    if nothing {
+        append(text, b"  nothing\n")
+    } else {
+        Ok(())
+    }
+}
+
+// Yes or no.
+#[tactic(auto, unfolding(crate::specs::Transcript::word_of))]
+fn word(yes: bool) -> &'static str
+    ensures { result.now ≡ word_of yes }
+{
+    if yes { "yes" } else { "no" }
+}
+
+// Appends what is said of a world's honesty and agreement.
+#[tactic(auto, unfolding(crate::specs::Transcript::verdict_text))]
+fn append_verdict(alloc: Global, text: &mut Vec<u8>, world: &World) -> Result<(), Memory>
+    ensures { OnOk result (text.new.items ≡ text.old.items ++ verdict_text (honest world.now) (agree world.now)) }
+{
+    let honest = word(world.honest());
+    let agree = word(world.agree());
+    let Ok(line) = format!(in alloc; "honest {honest} agree {agree}\n") else {
+        return Err(Memory);
+    };
+    append(text, line.as_bytes())
+}
+
+// The line of the handset.
+#[tactic(auto, unfolding(crate::specs::Transcript::ue_text))]
+fn ue_line(registering: bool) -> &'static str
+    ensures { result.now ≡ ue_text registering }
+{
+    if registering {
+        "  ue Registering connected - -\n"
+    } else {
+        "  ue Deregistered idle - -\n"
+    }
+}
+
+// Appends the lines of both ends.
+#[tactic(auto, unfolding(crate::specs::Transcript::net_text))]
+fn append_world(alloc: Global, text: &mut Vec<u8>, world: &World) -> Result<(), Memory>
+    ensures { OnOk result (text.new.items ≡ text.old.items ++ world_text world.now) }
+{
+    append(text, ue_line(world.registering()).as_bytes())?;
+    append(text, b"  net none - -\n")?;
+    append(text, b"  ")?;
+    append_verdict(alloc, text, world)
+}
+
+/// Appends the lines of an event, before which there were so many messages in each direction.
+#[tactic(auto, unfolding(crate::specs::Transcript::up, crate::specs::Transcript::down))]
+pub fn append_event(
+    alloc: Global,
+    text: &mut Vec<u8>,
+    number: u32,
+    line: &[u8],
+    before: (usize, usize),
+    world: &World,
+    seen: &Seen,
+) -> Result<(), Memory>
+    requires ups { before.0 ≤ length world.now.up }
+    requires downs { before.1 ≤ length world.now.down }
+    ensures { OnOk result (text.new.items ≡ text.old.items ++ event_text number line.now before.0 before.1 world.now seen.now) }
+{
+    let sent = world.sent();
+    append_line(alloc, text, number, line)?;
+    append_newly_sent(alloc, text, "up", before.0, sent.up.as_slice())?;
+    append_newly_sent(alloc, text, "down", before.1, sent.down.as_slice())?;
+    append_refused(text, &seen.refused)?;
+    append_nothing(text, seen.nothing)?;
+    append_world(alloc, text, world)
+}
+
+/// Appends the last line, after so many events.
+#[tactic(auto, unfolding(crate::specs::Transcript::end_text))]
+pub fn append_end(
+    alloc: Global,
+    text: &mut Vec<u8>,
+    number: u32,
+    world: &World,
+) -> Result<(), Memory>
+    ensures { OnOk result (text.new.items ≡ text.old.items ++ end_text number world.now) }
+{
+    let Ok(start) = format!(in alloc; "end {number} events ") else {
+        return Err(Memory);
+    };
+    append(text, start.as_bytes())?;
+    append_verdict(alloc, text, world)
+}
