@@ -1,1 +1,3 @@
+pub mod ConfigLaws
+pub mod DocumentLaws
 pub mod TranscriptLaws

@@ -1,7 +1,8 @@
 //! What a world is made of.
 
 use mm_messages::Capability;
-use nas_base::{Plmn, Supi};
+use nas_base::{Memory, Plmn, Supi};
+use std::alloc::Global;
 use std::marker::Model;
 
 /// A subscriber of the network.
@@ -23,6 +24,43 @@ impl Model for Subscribers {
     ghost Value = { List Subscriber };
 
     ghost view = { λ s. s.items.items };
+}
+
+impl Subscribers {
+    ghost use Rattle.std.specs.Prelude.{◌≡◌, [], ◌∷◌, ◌++◌, OnOk, OnErr};
+    ghost use Rattle.nas_world.specs.Subscribers.{is_subscriber};
+
+    /// No subscriber.
+    pub fn new(alloc: Global) -> Subscribers
+        ensures { result ≡ [] }
+    {
+        Subscribers {
+            items: Vec::new(alloc),
+        }
+    }
+
+    /// One more subscriber at the end.
+    pub fn push(&mut self, subscriber: Subscriber) -> Result<(), Memory>
+        ensures ok { OnOk result (self.new ≡ self.old ++ subscriber ∷ []) }
+        ensures err { OnErr result (self.new ≡ self.old) }
+    {
+        match self.items.push(subscriber) {
+            Ok(()) => Ok(()),
+            Err(_) => Err(Memory),
+        }
+    }
+
+    /// Whether one of them has this SUPI.
+    pub fn contain(&self, supi: &Supi) -> bool
+        ensures { result ≡ is_subscriber supi.now self.now }
+    {
+        for subscriber in &self.items {
+            if subscriber.supi == *supi {
+                return true;
+            }
+        }
+        false
+    }
 }
 
 /// The network: its identity, and 1 to 64 subscribers, whose SUPIs are distinct and begin with its digits.

@@ -1,0 +1,33 @@
+-- The next table gives one more subscriber of this network, whose SUPI is new.
+use Rattle.std.proofs.Common.{◌≡◌, ◌∙◌, ℕ, ◌+◌, true, false, List, [], ◌∷◌, ◌++◌, length, map, drop, Some, ap, refl, sym, subst, arith}
+use Rattle.std.specs.List.{list_all}
+use Rattle.std.proofs.lemmas.List.{drop_more, length-append}
+use Rattle.toml.specs.Data.{Data}
+use Rattle.toml.specs.View.{view}
+use Rattle.toml.specs.declared.value.Value.{Value}
+use Rattle.nas_base.specs.Supi.{is_of_plmn}
+use Rattle.nas_world.specs.Subscribers.{are_new, is_subscriber}
+use Rattle.nas_world.specs.declared.config.Subscriber.{Subscriber}
+use Rattle.nas_script.specs.Config.{subscribers_in}
+use Rattle.nas_script.proofs.ConfigLaws.{are_new-push, fact_of_some, named_some, network-push, subscribers_in-more}
+use Rattle.nas_script.specs.declared.key.Key.TheVariants as keys
+use Rattle.nas_script.proofs.config.read_subscribers.Goals as goal
+
+pub loop-table-preserved : goal.loop-table-preserved
+loop-table-preserved c =
+    let found = named_some keys.Supi c.new_supi_of.result c.in_ok-supi.supi c.in_ok-supi.ensures in
+    let fact = fact_of_some (λ (supi : List ℕ). (is_of_plmn c.args.plmn.now supi ≡ true) × (is_subscriber supi c.loop-table.subscribers ≡ false)) c.new_supi_of.result c.in_ok-supi.supi found c.new_supi_of.ensures.fact in
+    let pushed = c.in_ok-push.ensures.ok in
+    let front : drop c.loop-table.table-index c.args.tables.now ≡ c.table-item.result ∷ drop (c.loop-table.table-index + 1) c.args.tables.now =
+    drop_more c.args.tables.now c.loop-table.table-index c.table-item.result c.loop-table-test.true
+    ∙ ap (λ (v : Value). v ∷ drop (c.loop-table.table-index + 1) c.args.tables.now) (sym c.table-item.is) in
+    record {
+      count = rw (pushed, length-append c.loop-table.subscribers (record { supi = c.in_ok-supi.supi } ∷ []), c.loop-table.invariant.count) refl;
+      network = rw pushed (network-push c.args.plmn.now c.loop-table.subscribers (record { supi = c.in_ok-supi.supi }) c.loop-table.invariant.network fact.0);
+      distinct = rw pushed (are_new-push [] c.loop-table.subscribers (record { supi = c.in_ok-supi.supi }) c.loop-table.invariant.distinct fact.1);
+      told =
+          rw pushed
+          (subscribers_in-more c.args.plmn.now c.loop-table.subscribers (view c.table-item.result) (map view (drop (c.loop-table.table-index + 1) c.args.tables.now)) c.in_ok-supi.supi (sym c.new_supi_of.ensures.value ∙ found)
+          ∙ ap (λ (vs : List Value). subscribers_in c.args.plmn.now c.loop-table.subscribers (map view vs)) (sym front)
+          ∙ c.loop-table.invariant.told);
+    }
