@@ -1,3 +1,4 @@
 pub mod ConfigLaws
 pub mod DocumentLaws
+pub mod LinesLaws
 pub mod TranscriptLaws

@@ -3,5 +3,7 @@ pub mod Document
 pub mod Fault
 pub mod Fields
 pub mod Keys
+pub mod Lines
 pub mod Reads
+pub mod Script
 pub mod Transcript

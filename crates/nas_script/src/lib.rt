@@ -3,11 +3,14 @@
 
 mod config;
 mod document;
+mod event_line;
 mod event_text;
 mod fields;
 mod key;
+mod script;
 mod telling;
 
 pub use crate::config::{ConfigRefusal, read_config};
 pub use crate::key::Key;
+pub use crate::script::ScriptRefusal;
 pub use crate::telling::{TranscriptFault, transcript};

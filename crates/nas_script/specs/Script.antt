@@ -1,0 +1,81 @@
+-- The script: a line for each event, and lines that are none.
+use Rattle.std.specs.Prelude.{◌≡◌, ℕ, ◌+◌, ◌-◌, ◌*◌, ◌^◌, Bool, List, [], ◌∷◌, ◌++◌, length, drop, codes, nat_eq, nat_lt, ◌==◌, ◌&&◌, Option, Some, None, option_map, Result, Ok, Err, if◌then◌else◌}
+use Rattle.std.specs.Char.{is_ascii_digit}
+use Rattle.std.specs.Cmp.Lexicographic.{pointwise}
+use Rattle.std.specs.List.{starts_with}
+use Rattle.nas_base.specs.declared.kind.Kind.TheVariants.{Initial}
+use Rattle.nas_world.specs.Script.{Line}
+use Rattle.nas_world.specs.declared.event.Event.{Event}
+use Rattle.nas_world.specs.declared.event.Event.TheVariants.{Command, ToNet, ToUe}
+use Rattle.nas_world.specs.declared.event.UeCommand.TheVariants.{Register}
+use Rattle.nas_script.specs.Lines.{all_ascii, count_events, is_event, split}
+use Rattle.nas_script.specs.declared.script.ScriptRefusal.{ScriptRefusal}
+use Rattle.nas_script.specs.declared.script.ScriptRefusal.TheVariants.{TooLong, ScriptWrong, Memory}
+
+-- decimal digits behind a number: what both are together, if that is below 2 ^ 32
+abbrev pub number_from : ℕ → List ℕ → Option ℕ
+number_from n [] = Some n
+number_from n (c ∷ cs) =
+    if is_ascii_digit c && nat_lt (10 * n + (c - 48)) (2 ^ 32) then number_from (10 * n + (c - 48)) cs else None
+
+-- a number from 1 to 2 ^ 32 - 1, without sign or leading zeros
+abbrev pub number_in : List ℕ → Option ℕ
+number_in [] = None
+number_in (c ∷ cs) = if c == 48 then None else number_from 0 (c ∷ cs)
+
+-- what stands behind a word and a space
+abbrev pub behind : List ℕ → List ℕ → Option (List ℕ)
+behind word line = if starts_with nat_eq line word then Some (drop (length word) line) else None
+
+abbrev pub numbered : (ℕ → Event) → Option (List ℕ) → Option Event → Option Event
+numbered make None otherwise = otherwise
+numbered make (Some rest) otherwise = option_map make (number_in rest)
+
+-- register; to-net K; to-ue K
+unfoldable pub event_in : List ℕ → Option Event
+event_in line =
+    if pointwise nat_eq line (codes "register") then Some (Command (Register Initial))
+    else numbered ToNet (behind (codes "to-net ") line) (numbered ToUe (behind (codes "to-ue ") line) None)
+
+-- What a line says: an event, or nothing. One that says neither is no line; nor is one with an octet above 127, be it a
+-- comment.
+abbrev pub said_by : List ℕ → Option (Option Event)
+said_by line =
+    if all_ascii line then (if is_event line then option_map Some (event_in line) else Some None) else None
+
+-- a line before the events of those behind it
+abbrev pub with_line : ℕ → List ℕ → Option (Option Event) → Result (List Line) ScriptRefusal → Result (List Line) ScriptRefusal
+with_line number line None rest = Err (ScriptWrong number)
+with_line number line (Some None) rest = rest
+with_line number line (Some (Some event)) (Ok lines) = Ok (record { event = event; text = line } ∷ lines)
+with_line number line (Some (Some event)) (Err refusal) = Err refusal
+
+-- the events of lines, which are numbered on from that number, or the first that is none
+abbrev pub events_in : ℕ → List (List ℕ) → Result (List Line) ScriptRefusal
+events_in number [] = Ok []
+events_in number (l ∷ ls) = with_line number l (said_by l) (events_in (number + 1) ls)
+
+-- the script in the octets; the number of its events is judged first
+unfoldable pub script_in : List ℕ → Result (List Line) ScriptRefusal
+script_in octets =
+    if nat_lt 65536 (count_events (split octets)) then Err (TooLong (count_events (split octets)))
+    else events_in 1 (split octets)
+
+-- what a reader of a script answered, seen by view
+abbrev pub ReadsLines : {X : Type 0} → (X → List Line) → Result X ScriptRefusal → Result (List Line) ScriptRefusal → Type 0
+ReadsLines view (Ok x) read = read ≡ Ok (view x)
+ReadsLines view (Err Memory) read = Unit {0}
+ReadsLines view (Err refusal) read = read ≡ Err refusal
+
+-- events before others
+abbrev pub before : List Line → Result (List Line) ScriptRefusal → Result (List Line) ScriptRefusal
+before lines (Ok more) = Ok (lines ++ more)
+before lines (Err refusal) = Err refusal
+
+-- what a reader of one more line answered, which kept the events so far
+abbrev pub ReadsLine : ℕ → List ℕ → List Line → List Line → Result (Unit {0}) ScriptRefusal → Type 0
+ReadsLine number line old new (Ok _) =
+    (rest : Result (List Line) ScriptRefusal) → before old (with_line number line (said_by line) rest) ≡ before new rest
+ReadsLine number line old new (Err (ScriptWrong wrong)) = (wrong ≡ number) × (said_by line ≡ None)
+ReadsLine number line old new (Err (TooLong size)) = ⊥
+ReadsLine number line old new (Err Memory) = Unit {0}
