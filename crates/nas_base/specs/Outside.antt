@@ -1,12 +1,12 @@
 -- What objects of the outside tell of their calls: octets where they are known, and a count of faults that never falls.
-use Rattle.std.specs.Prelude.{◌≡◌, ℕ, ◌+◌, ◌-◌, ◌^◌, ◌≤◌, min, Bool, true, false, List, ◌++◌, Option, Result, Ok, Err, MatchBool}
+use Rattle.std.specs.Prelude.{◌≡◌, ℕ, ◌+◌, ◌-◌, ◌^◌, ◌≤◌, max, min, Bool, true, false, List, ◌++◌, Option, Result, Ok, Err, MatchBool}
 use Rattle.std.specs.Io.KnownBytes.{Appends}
 use Rattle.nas_base.specs.declared.outside.WriteRefusal.{WriteRefusal}
 use Rattle.nas_base.specs.declared.outside.WriteRefusal.TheVariants.{Failed, Memory}
 
 -- the count rose in the call; one that stands at the end of its type stays there, and counts as having risen
 abbrev pub Rose : ℕ → ℕ → Type 0
-Rose before now = min (before + 1) (2 ^ 64 - 1) ≤ now
+Rose before now = max before (min (before + 1) (2 ^ 64 - 1)) ≤ now
 
 -- some front of the text was appended
 pub record AppendsFront (old new : Option (List ℕ)) (text : List ℕ) : Type 0 where

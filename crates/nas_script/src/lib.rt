@@ -12,5 +12,5 @@ mod telling;
 
 pub use crate::config::{ConfigRefusal, read_config};
 pub use crate::key::Key;
-pub use crate::script::ScriptRefusal;
+pub use crate::script::{ScriptRefusal, read_script};
 pub use crate::telling::{TranscriptFault, transcript};

@@ -1,0 +1,82 @@
+//! The program.
+ghost use Rattle.std.specs.Prelude.{◌≡◌, ◌∷◌, [], IfSome, IfNone, option_map};
+ghost use Rattle.nas_base.specs.Outside.{Rose};
+ghost use Rattle.nas_cli.specs.Program.{AsksFirst, Says, SaysRun, names_in, run_form, words_answer};
+
+use crate::answers::{tell_config, tell_file, tell_run, tell_script, tell_too_long, tell_words};
+use crate::files::Files;
+use crate::plan::{Stop, read_run};
+use crate::status::ExitStatus;
+use crate::words::Words;
+use nas_base::Sink;
+use std::alloc::Global;
+
+/// All that the program does, over the words of its command line, the files and the output that it is handed.
+///
+/// `run CONFIG SCRIPT` writes the transcript of the run that the two files ask for, and ends with 0. Words of no other form
+/// are known: they give 2. A fault of the files gives the line that names it, and its status.
+pub fn nas<F: Files, O: Sink>(
+    alloc: Global,
+    words: &Words,
+    files: &mut F,
+    out: &mut O,
+) -> ExitStatus
+    ensures words { IfNone (run_form words.now) (Says (O.written out.old) (O.written out.new) (O.fault_count out.old) (O.fault_count out.new) words_answer result) }
+    ensures run { IfSome (run_form words.now) (λ names.
+        SaysRun (F.content files.old) names (F.fault_count files.old) (F.fault_count files.new)
+        (λ answer. Says (O.written out.old) (O.written out.new) (O.fault_count out.old) (O.fault_count out.new) answer result)) }
+
+    // A fault of the outside is answered only where its object's count rose.
+    ensures file_fault { result ≡ 5 → Rose (F.fault_count files.old) (F.fault_count files.new) }
+    ensures output_fault { result ≡ 6 → Rose (O.fault_count out.old) (O.fault_count out.new) }
+
+    // The configuration's file is asked for, and then the script's; no other, and neither twice.
+    ensures asked { AsksFirst (F.asked files.old) (F.asked files.new) (names_in (run_form words.now)) }
+{
+    match run_names(words) {
+        Some((config, script)) => run(alloc, config, script, files, out),
+        None => tell_words(out),
+    }
+}
+
+// The names of both files, where the words are `run CONFIG SCRIPT`.
+#[tactic(auto, unfolding(crate::specs::Program::run_word))]
+fn run_names(words: &Words) -> Option<(&str, &str)>
+    ensures { option_map (λ names. (names.0.now, names.1.now)) result ≡ run_form words.now }
+{
+    match words.items.as_slice() {
+        [form, config, script] => {
+            if form.as_str() == "run" {
+                Some((config.as_str(), script.as_str()))
+            } else {
+                None
+            }
+        }
+        _ => None,
+    }
+}
+
+// Writes what the two files ask for.
+#[tactic(auto, using(crate::proofs::SayLaws::says_run_starved))]
+fn run<F: Files, O: Sink>(
+    alloc: Global,
+    config: &str,
+    script: &str,
+    files: &mut F,
+    out: &mut O,
+) -> ExitStatus
+    ensures run { SaysRun (F.content files.old) (config.now, script.now) (F.fault_count files.old) (F.fault_count files.new)
+        (λ answer. Says (O.written out.old) (O.written out.new) (O.fault_count out.old) (O.fault_count out.new) answer result) }
+    ensures file_fault { result ≡ 5 → Rose (F.fault_count files.old) (F.fault_count files.new) }
+    ensures output_fault { result ≡ 6 → Rose (O.fault_count out.old) (O.fault_count out.new) }
+    ensures asked { AsksFirst (F.asked files.old) (F.asked files.new) (config.now ∷ script.now ∷ []) }
+{
+    match read_run(alloc, config, script, files) {
+        Ok(run) => tell_run(alloc, &run, out),
+        Err(Stop::File) => tell_file(out),
+        Err(Stop::TooLong { size }) => tell_too_long(alloc, size, out),
+        Err(Stop::Config { key }) => tell_config(alloc, key, out),
+        Err(Stop::Script { line }) => tell_script(alloc, line, out),
+        Err(Stop::Memory) => ExitStatus(8),
+    }
+}
