@@ -25,3 +25,9 @@ AsksFor old new name (Ok octets) = new ≡ one_more old name
 AsksFor old new name (Err Failed) = new ≡ one_more old name
 AsksFor old new name (Err (TooLong size)) = new ≡ one_more old name
 AsksFor old new name (Err Memory) = new ≡ old
+
+-- a refusal that names a size names one above the limit
+abbrev pub AboveLimit : ℕ → FileRefusal → Type 0
+AboveLimit limit (TooLong size) = limit < size
+AboveLimit limit Failed = Unit {0}
+AboveLimit limit Memory = Unit {0}

@@ -1,3 +1,4 @@
 pub mod Files
 pub mod Program
+pub mod Shelf
 pub mod Status

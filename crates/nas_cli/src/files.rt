@@ -2,7 +2,7 @@
 ghost use Rattle.std.specs.Prelude.{◌≡◌, ◌≤◌, ℕ, List, Option};
 ghost use Rattle.nas_cli.specs.Files.{AsksFor, ReadsFile};
 
-use nas_base::Octets1M;
+use nas_base::{Memory, Octets1M};
 use std::alloc::Global;
 
 /// Why a file was not read.
@@ -13,6 +13,16 @@ pub enum FileRefusal {
     /// The file has `size` octets, which is above the limit.
     TooLong { size: u64 },
     Memory,
+}
+
+impl From<Memory> for FileRefusal {
+    ghost use Rattle.nas_cli.specs.declared.files.FileRefusal.TheVariants.{Memory as Wanting};
+
+    ghost from_gives = { λ _ refusal. refusal ≡ Wanting };
+
+    fn from(_: Memory) -> FileRefusal {
+        FileRefusal::Memory
+    }
 }
 
 /// Where files are read from, by their names.
