@@ -12,7 +12,7 @@ use Rattle.mm_messages.specs.declared.message.MmRefusal.{MmRefusal}
 use Rattle.mm_messages.specs.declared.registration.RegistrationType.{RegistrationType}
 use Rattle.mm_messages.specs.declared.registration.RegistrationType.TheVariants.{Initial, Mobility, Periodic, Emergency}
 
--- 5GS registration type (clause 9.11.3.7): bits 1 to 3. The values that are reserved are read as initial registration.
+-- 5GS registration type (clause 9.11.3.7): bits 1 to 3. All other values are read as initial registration.
 abbrev pub registration_type_code : RegistrationType → ℕ
 registration_type_code Initial = 1
 registration_type_code Mobility = 2

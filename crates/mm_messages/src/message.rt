@@ -35,7 +35,7 @@ pub enum MmRefusal {
     /// They are no plain 5GMM message, which shows at the place `at`: another protocol discriminator, another header type,
     /// or too few octets for a message type.
     Ignored { at: usize },
-    /// There is no message of the type `n`.
+    /// No message of the type `n` is read.
     UnknownType { n: u8 },
     /// The mandatory part `part`, counted from 1, is the first that is cut or has no value. It starts at `at`.
     Mandatory { part: u8, at: usize },

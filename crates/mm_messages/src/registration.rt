@@ -45,7 +45,7 @@ impl RegistrationType {
         }
     }
 
-    // The type of three bits. The reserved values are read as an initial registration.
+    // The type of three bits. All other values are read as an initial registration.
     fn of(code: u8) -> RegistrationType
         ensures { result ≡ registration_type_of code }
     {

@@ -1,4 +1,4 @@
--- PLMN identities (TS 23.003 clause 2.2).
+-- PLMN identities (TS 23.003 clause 12.1), whose codes an IMSI begins with (clause 2.2).
 use Rattle.std.specs.Prelude.{ℕ, Bool, List, ◌++◌, take, drop, ◌&&◌, Option, Some, None, if◌then◌else◌}
 use Rattle.nas_base.specs.Digits.{are_digits}
 

@@ -24,7 +24,7 @@ needing n p read = if nat_lt (length p.left) n then Err (record { at = p.at; nee
 abbrev pub octets_at : ℕ → Place → Reads (List ℕ)
 octets_at n p = needing n p (Ok (take n p.left, past n p))
 
--- the two halves of the next octet: bits 1 to 4, and bits 5 to 8
+-- the two halves of the next octet: bits 1 to 4, and bits 5 to 8 (TS 24.007 clause 11.2.1.1)
 abbrev pub halves_at : Place → Reads (ℕ × ℕ)
 halves_at p = needing 1 p (Ok ((slice_index p.left 0 % 16, slice_index p.left 0 / 16), past 1 p))
 

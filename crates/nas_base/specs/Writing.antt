@@ -15,7 +15,7 @@ lv octets = length octets ∷ octets
 abbrev pub lve : List ℕ → List ℕ
 lve octets = big_bytes 2 (length octets) ++ octets
 
--- an element: its identifier, then the value behind its length (TLV); and one that may be absent
+-- an element: its identifier, then the value behind its length (TLV, TS 24.007 clause 11.2.1.1); and one that may be absent
 abbrev pub tlv : ℕ → List ℕ → List ℕ
 tlv iei octets = iei ∷ lv octets
 

@@ -5,7 +5,7 @@ ghost use Rattle.nas_base.specs.Digits.{all_digits, are_digits, digits_between, 
 use arrayvec::ArrayVec;
 use std::marker::Model;
 
-/// 1 to 15 decimal digits, each a number from 0 to 9: an IMSI, or a part of one (TS 23.003 clause 2.2).
+/// 1 to 15 decimal digits, each a number from 0 to 9, as an IMSI has them (TS 23.003 clause 2.2).
 #[derive(Debug, Drop, PartialEq, Eq)]
 pub struct Digits {
     pub items: ArrayVec<u8, 15>,

@@ -6,8 +6,6 @@ use std::marker::Model;
 
 const OCTETS_LIMIT: usize = 4100;
 
-const OCTETS_1M_LIMIT: usize = 1_048_576;
-
 /// At most 4,100 octets: a NAS message, or a part of one.
 #[derive(Drop)]
 pub struct Octets {
@@ -79,23 +77,6 @@ impl Octets {
 
 impl Octets1M {
     ghost use Rattle.std.specs.Prelude.{◌≡◌, ◌≤◌, length};
-
-    /// A copy of the octets.
-    ///
-    /// # Errors
-    ///
-    /// `TooMany` exactly above 1,048,576 octets; else `Memory`.
-    pub fn copy(alloc: Global, from: &[u8]) -> Result<Octets1M, OctetsRefusal>
-        ensures { Copies 1048576 from.now result }
-    {
-        if from.len() > OCTETS_1M_LIMIT {
-            return Err(OctetsRefusal::TooMany { size: from.len() });
-        }
-        match from.to_vec(alloc) {
-            Ok(items) => Ok(Octets1M { items }),
-            Err(_) => Err(OctetsRefusal::Memory),
-        }
-    }
 
     /// The octets as they lie there.
     pub fn as_slice(&self) -> &[u8]

@@ -6,7 +6,7 @@ use crate::Digits;
 use arrayvec::ArrayVec;
 use std::marker::Model;
 
-/// A PLMN identity: a mobile country code of 3 digits, and a mobile network code of 2 or 3 (TS 23.003 clause 2.2).
+/// A PLMN identity: a mobile country code of 3 digits, and a mobile network code of 2 or 3 (TS 23.003 clause 12.1).
 #[derive(Debug, Drop, PartialEq, Eq)]
 pub struct Plmn {
     pub mcc: Digits,

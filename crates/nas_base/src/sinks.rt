@@ -1,5 +1,6 @@
 //! Sinks in memory.
-ghost use Rattle.std.specs.Prelude.{◌≡◌, [], ◌++◌, take, ◌/◌, ◌+◌, length, OnOk, OnErr};
+ghost use Rattle.std.specs.Prelude.{◌≡◌, ◌↔◌, ◌+◌, ◌-◌, ◌^◌, [], min, Some, Contains, IsErrOf};
+ghost use Rattle.nas_base.specs.Outside.{Tells, is_failed};
 
 use crate::{Sink, WriteRefusal};
 use std::alloc::Global;
@@ -44,7 +45,7 @@ impl Sink for MemorySink {
 
     ghost fault_count = { λ _. 0 };
 
-    fn write(&mut self, octets: &[u8]) -> Result<(), WriteRefusal> {
+    fn write(&mut self, _alloc: Global, octets: &[u8]) -> Result<(), WriteRefusal> {
         match self.octets.extend_from_slice(octets) {
             Ok(()) => Ok(()),
             Err(_) => Err(WriteRefusal::Memory),
@@ -101,7 +102,14 @@ impl Sink for FaultySink {
 
     ghost fault_count = { λ s. s.faults };
 
-    fn write(&mut self, octets: &[u8]) -> Result<(), WriteRefusal> {
+    fn write(&mut self, _alloc: Global, octets: &[u8]) -> Result<(), WriteRefusal>
+        ensures tells { Tells is_failed (Some self.old.written) (Some self.new.written) self.old.faults self.new.faults octets.now result }
+
+        // It fails exactly at the calls that are listed.
+        ensures list { self.new.failing ≡ self.old.failing }
+        ensures calls { self.new.calls ≡ min (self.old.calls + 1) (2 ^ 64 - 1) }
+        ensures failed { IsErrOf result WriteRefusal.Failed ↔ Contains self.old.failing self.new.calls }
+    {
         self.calls = self.calls.saturating_add(1);
         if self.failing.contains(&self.calls) {
             self.faults = self.faults.saturating_add(1);

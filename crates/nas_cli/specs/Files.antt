@@ -31,3 +31,9 @@ abbrev pub AboveLimit : ℕ → FileRefusal → Type 0
 AboveLimit limit (TooLong size) = limit < size
 AboveLimit limit Failed = Unit {0}
 AboveLimit limit Memory = Unit {0}
+
+-- an error of reading is a failure or want of memory
+abbrev pub IsErrorOfReading : FileRefusal → Type 0
+IsErrorOfReading Failed = Unit {0}
+IsErrorOfReading Memory = Unit {0}
+IsErrorOfReading (TooLong size) = ⊥

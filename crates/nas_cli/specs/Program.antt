@@ -1,5 +1,5 @@
 -- What the program answers: a status, and the text that it writes.
-use Rattle.std.specs.Prelude.{◌≡◌, ◌⊎◌, ℕ, ◌<◌, ◌≤◌, ◌++◌, List, [], ◌∷◌, length, take, codes, nat_eq, nat_lt, ◌&&◌, Option, Some, None, option_map, IfSome, Result, Ok, Err, if◌then◌else◌}
+use Rattle.std.specs.Prelude.{◌≡◌, ◌⊎◌, Bool, true, false, ℕ, ◌<◌, ◌≤◌, ◌++◌, List, [], ◌∷◌, length, take, codes, nat_eq, nat_lt, ◌&&◌, Option, Some, None, option_map, IfSome, Result, Ok, Err, if◌then◌else◌}
 use Rattle.std.specs.Cmp.Lexicographic.{pointwise}
 use Rattle.std.specs.Fmt.{decimal}
 use Rattle.std.specs.Io.KnownBytes.{Appends}
@@ -137,3 +137,20 @@ Fetches file (Err File) = Unit {0}
 Fetches file (Err Memory) = Unit {0}
 Fetches file (Err (Config key)) = ⊥
 Fetches file (Err (Script line)) = ⊥
+
+-- a file that is not read: it isn't there, or is too long
+abbrev pub IsRefused : Option (List ℕ) → Type 0
+IsRefused None = Unit {0}
+IsRefused (Some octets) = 1048576 < length octets
+
+-- a status that tells of the content of both files
+abbrev pub IsOfContent : ℕ → Type 0
+IsOfContent status = (status ≡ 0) ⊎ (status ≡ 3) ⊎ (status ≡ 4)
+
+-- the same for what was found
+abbrev pub is_of_content : Stop → Bool
+is_of_content (Config key) = true
+is_of_content (Script line) = true
+is_of_content File = false
+is_of_content (TooLong size) = false
+is_of_content Memory = false

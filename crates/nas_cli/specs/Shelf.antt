@@ -15,6 +15,10 @@ file_named name (f ∷ fs) = if pointwise nat_eq f.0 name then Some f.1 else fil
 abbrev pub octets_named : List ℕ → List Named → List ℕ
 octets_named name fs = unwrap_or (file_named name fs) []
 
+-- what is told of them
+abbrev pub told_by : List Named → Option (List ℕ → Option (List ℕ))
+told_by fs = Some (λ name. file_named name fs)
+
 -- files, and the names that were asked for
 pub record ShelfValue : Type 0 where
   pub files : List Named

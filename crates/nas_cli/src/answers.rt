@@ -10,10 +10,10 @@ use nas_script::{Key, TranscriptFault, transcript};
 use std::alloc::{AllocError, Global};
 
 /// Writes a text, and answers the status that goes with it.
-pub fn tell<O: Sink>(out: &mut O, text: &[u8], status: ExitStatus) -> ExitStatus
+pub fn tell<O: Sink>(alloc: Global, out: &mut O, text: &[u8], status: ExitStatus) -> ExitStatus
     ensures { Says (O.written out.old) (O.written out.new) (O.fault_count out.old) (O.fault_count out.new) (record { status = status; text = text.now }) result }
 {
-    match out.write(text) {
+    match out.write(alloc, text) {
         Ok(()) => status,
         Err(WriteRefusal::Failed) => ExitStatus(6),
         Err(WriteRefusal::Memory) => ExitStatus(8),
@@ -22,18 +22,18 @@ pub fn tell<O: Sink>(out: &mut O, text: &[u8], status: ExitStatus) -> ExitStatus
 
 /// The words are of no form.
 #[tactic(auto, unfolding(crate::specs::Program::words_line))]
-pub fn tell_words<O: Sink>(out: &mut O) -> ExitStatus
+pub fn tell_words<O: Sink>(alloc: Global, out: &mut O) -> ExitStatus
     ensures { Says (O.written out.old) (O.written out.new) (O.fault_count out.old) (O.fault_count out.new) words_answer result }
 {
-    tell(out, b"nas: words\n", ExitStatus(2))
+    tell(alloc, out, b"nas: words\n", ExitStatus(2))
 }
 
 /// A file was refused.
 #[tactic(auto, unfolding(crate::specs::Program::file_line))]
-pub fn tell_file<O: Sink>(out: &mut O) -> ExitStatus
+pub fn tell_file<O: Sink>(alloc: Global, out: &mut O) -> ExitStatus
     ensures { Says (O.written out.old) (O.written out.new) (O.fault_count out.old) (O.fault_count out.new) file_answer result }
 {
-    tell(out, b"nas: file\n", ExitStatus(5))
+    tell(alloc, out, b"nas: file\n", ExitStatus(5))
 }
 
 /// A file is too long, or the script has too many events.
@@ -42,7 +42,7 @@ pub fn tell_too_long<O: Sink>(alloc: Global, size: u64, out: &mut O) -> ExitStat
     ensures { Says (O.written out.old) (O.written out.new) (O.fault_count out.old) (O.fault_count out.new) (answer_to (Err (stops.TooLong size))) result }
 {
     match too_long_text(alloc, size) {
-        Ok(text) => tell(out, text.as_bytes(), ExitStatus(11)),
+        Ok(text) => tell(alloc, out, text.as_bytes(), ExitStatus(11)),
         Err(_) => ExitStatus(8),
     }
 }
@@ -60,7 +60,7 @@ pub fn tell_config<O: Sink>(alloc: Global, key: Key, out: &mut O) -> ExitStatus
     ensures { Says (O.written out.old) (O.written out.new) (O.fault_count out.old) (O.fault_count out.new) (answer_to (Err (stops.Config key))) result }
 {
     match config_text(alloc, key) {
-        Ok(text) => tell(out, text.as_bytes(), ExitStatus(3)),
+        Ok(text) => tell(alloc, out, text.as_bytes(), ExitStatus(3)),
         Err(_) => ExitStatus(8),
     }
 }
@@ -79,7 +79,7 @@ pub fn tell_script<O: Sink>(alloc: Global, line: u32, out: &mut O) -> ExitStatus
     ensures { Says (O.written out.old) (O.written out.new) (O.fault_count out.old) (O.fault_count out.new) (answer_to (Err (stops.Script line))) result }
 {
     match script_text(alloc, line) {
-        Ok(text) => tell(out, text.as_bytes(), ExitStatus(4)),
+        Ok(text) => tell(alloc, out, text.as_bytes(), ExitStatus(4)),
         Err(_) => ExitStatus(8),
     }
 }

@@ -1,14 +1,14 @@
 //! The files of the machine. What they hold is not told.
 ghost use Rattle.std.specs.Prelude.{◌≡◌, ◌≤◌, length, IfOk, IfErr};
 ghost use Rattle.nas_base.specs.Outside.{Rose};
-ghost use Rattle.nas_cli.specs.Files.{AboveLimit};
+ghost use Rattle.nas_cli.specs.Files.{AboveLimit, IsErrorOfReading};
 ghost use Rattle.nas_cli.specs.declared.files.FileRefusal.TheVariants.{Failed};
 
 use crate::files::{FileRefusal, Files};
 use nas_base::Octets1M;
 use std::alloc::Global;
 use std::fs::{self, OpenFile};
-use std::io::Read;
+use std::io::{self, Read};
 use std::rt;
 
 // So many octets are read at a time.
@@ -23,16 +23,32 @@ pub struct Disk<'a, R: rt::Files> {
 
 impl<'a, R: rt::Files> Disk<'a, R> {
     /// The files that this runtime reaches.
-    pub fn new(runtime: &'a R) -> Self {
+    pub fn new(runtime: &'a R) -> Self
+        ensures { result.faults ≡ 0 }
+    {
         Disk { runtime, faults: 0 }
     }
 
-    // Counts a failure.
-    fn failed(&mut self) -> FileRefusal
-        ensures value { result ≡ Failed }
-        ensures rose { Rose self.old.faults self.new.faults }
+    // The same refusal, and counts it where it is a failure.
+    fn counted(&mut self, refusal: FileRefusal) -> FileRefusal
+        ensures value { result ≡ refusal }
+        ensures count { self.old.faults ≤ self.new.faults }
+        ensures rose { refusal ≡ Failed → Rose self.old.faults self.new.faults }
     {
-        self.faults = self.faults.saturating_add(1);
+        if refusal == FileRefusal::Failed {
+            self.faults = self.faults.saturating_add(1);
+        }
+        refusal
+    }
+}
+
+// Want of memory is told apart from all other failures.
+fn refusal_of(error: io::Error) -> FileRefusal
+    ensures { IsErrorOfReading result }
+{
+    if error.kind() == io::ErrorKind::OutOfMemory {
+        FileRefusal::Memory
+    } else {
         FileRefusal::Failed
     }
 }
@@ -57,7 +73,7 @@ fn read_whole<F: Read>(alloc: Global, file: &mut F, limit: u32) -> Result<Octets
                     return Err(FileRefusal::Memory);
                 }
             }
-            Err(_) => return Err(FileRefusal::Failed),
+            Err(error) => return Err(refusal_of(error)),
         }
     }
     Err(FileRefusal::Failed)
@@ -73,8 +89,9 @@ impl<R: rt::Files> Files for Disk<'_, R> {
     ghost fault_count = { λ s. s.faults };
 
     fn read(&mut self, alloc: Global, name: &str, limit: u32) -> Result<Octets1M, FileRefusal> {
-        let Ok(mut file) = fs::open(self.runtime, name) else {
-            return Err(self.failed());
+        let mut file = match fs::open(self.runtime, name) {
+            Ok(file) => file,
+            Err(error) => return Err(self.counted(refusal_of(error))),
         };
         if let Ok(metadata) = file.metadata() {
             let size = metadata.len();
@@ -83,8 +100,8 @@ impl<R: rt::Files> Files for Disk<'_, R> {
             }
         }
         match read_whole(alloc, &mut file, limit) {
-            Err(FileRefusal::Failed) => Err(self.failed()),
-            answer => answer,
+            Ok(octets) => Ok(octets),
+            Err(refusal) => Err(self.counted(refusal)),
         }
     }
 

@@ -1,8 +1,8 @@
 //! What the files of a run ask for.
-ghost use Rattle.std.specs.Prelude.{◌≡◌, ◌≢◌, ◌≤◌, ◌∷◌, [], length, IfSome, IfErr, OnOk};
+ghost use Rattle.std.specs.Prelude.{◌≡◌, ◌≢◌, ◌≤◌, ◌∷◌, [], true, false, length, IfSome, IfErr, OnOk};
 ghost use Rattle.nas_base.specs.Outside.{Rose};
 ghost use Rattle.nas_cli.specs.declared.plan.Stop.TheVariants.{File};
-ghost use Rattle.nas_cli.specs.Program.{AsksFirst, Fetches, Plans, asks, configured, planned};
+ghost use Rattle.nas_cli.specs.Program.{AsksFirst, Fetches, IsRefused, Plans, asks, is_of_content, configured, planned};
 ghost use Rattle.nas_script.specs.Config.{config_in};
 ghost use Rattle.nas_script.specs.Script.{script_in};
 
@@ -47,6 +47,11 @@ pub fn read_run<F: Files>(
     ensures plan { IfSome (F.content files.old) (λ content. Plans (planned (content config.now) (content script.now)) result) }
     ensures fault { IfErr result (λ stop. stop ≡ File → Rose (F.fault_count files.old) (F.fault_count files.new)) }
     ensures asked { AsksFirst (F.asked files.old) (F.asked files.new) (config.now ∷ script.now ∷ []) }
+    ensures asked_one { IfSome (F.content files.old) (λ content.
+        IsRefused (content config.now) → AsksFirst (F.asked files.old) (F.asked files.new) (config.now ∷ [])) }
+    ensures asked_both { OnOk result (F.asked files.new ≡ asks (config.now ∷ script.now ∷ []) (F.asked files.old)) }
+    ensures asked_both_err { IfErr result (λ stop.
+        is_of_content stop ≡ true → F.asked files.new ≡ asks (config.now ∷ script.now ∷ []) (F.asked files.old)) }
 {
     let config = read(alloc, config, files)?;
     let script = read(alloc, script, files)?;
@@ -57,6 +62,7 @@ pub fn read_run<F: Files>(
 fn read<F: Files>(alloc: Global, name: &str, files: &mut F) -> Result<Octets1M, Stop>
     ensures read { IfSome (F.content files.old) (λ content. Fetches (content name.now) result) }
     ensures fault { IfErr result (λ stop. stop ≡ File → Rose (F.fault_count files.old) (F.fault_count files.new)) }
+    ensures kind { IfErr result (λ stop. is_of_content stop ≡ false) }
     ensures count { F.fault_count files.old ≤ F.fault_count files.new }
     ensures content { F.content files.new ≡ F.content files.old }
     ensures asked { AsksFirst (F.asked files.old) (F.asked files.new) (name.now ∷ []) }

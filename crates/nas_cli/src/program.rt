@@ -1,14 +1,15 @@
 //! The program.
-ghost use Rattle.std.specs.Prelude.{◌≡◌, ◌∷◌, [], IfSome, IfNone, option_map};
+ghost use Rattle.std.specs.Prelude.{◌≡◌, ◌≢◌, ◌∷◌, [], None, IfSome, IfNone, option_map};
 ghost use Rattle.nas_base.specs.Outside.{Rose};
-ghost use Rattle.nas_cli.specs.Program.{AsksFirst, Says, SaysRun, names_in, run_form, words_answer};
+ghost use Rattle.nas_cli.specs.Program.{AsksFirst, IsOfContent, IsRefused, Says, SaysRun, asks, names_in, run_form, words_answer};
 
 use crate::answers::{tell_config, tell_file, tell_run, tell_script, tell_too_long, tell_words};
 use crate::files::Files;
 use crate::plan::{Stop, read_run};
+use crate::shelf::MemoryFiles;
 use crate::status::ExitStatus;
 use crate::words::Words;
-use nas_base::Sink;
+use nas_base::{MemorySink, Sink};
 use std::alloc::Global;
 
 /// All that the program does, over the words of its command line, the files and the output that it is handed.
@@ -30,13 +31,33 @@ pub fn nas<F: Files, O: Sink>(
     ensures file_fault { result ≡ 5 → Rose (F.fault_count files.old) (F.fault_count files.new) }
     ensures output_fault { result ≡ 6 → Rose (O.fault_count out.old) (O.fault_count out.new) }
 
-    // The configuration's file is asked for, and then the script's; no other, and neither twice.
+    // The configuration's file is asked for, and then the script's; no other, and neither twice. The script's isn't where
+    // the configuration's is refused, and is where their content is judged.
     ensures asked { AsksFirst (F.asked files.old) (F.asked files.new) (names_in (run_form words.now)) }
+    ensures asked_one { IfSome (run_form words.now) (λ names. IfSome (F.content files.old) (λ content.
+        IsRefused (content names.0) → AsksFirst (F.asked files.old) (F.asked files.new) (names.0 ∷ []))) }
+    ensures asked_both { IsOfContent result → F.asked files.new ≡ asks (names_in (run_form words.now)) (F.asked files.old) }
+
+    // Words of a form never give 2.
+    ensures form { result ≡ 2 → run_form words.now ≡ None }
 {
     match run_names(words) {
         Some((config, script)) => run(alloc, config, script, files, out),
-        None => tell_words(out),
+        None => tell_words(alloc, out),
     }
+}
+
+/// The same over objects in memory, which never fail: so no fault of them is answered.
+pub fn nas_in_memory(
+    alloc: Global,
+    words: &Words,
+    files: &mut MemoryFiles,
+    out: &mut MemorySink,
+) -> ExitStatus
+    ensures no_file_fault { result ≢ 5 }
+    ensures no_output_fault { result ≢ 6 }
+{
+    nas(alloc, words, files, out)
 }
 
 // The names of both files, where the words are `run CONFIG SCRIPT`.
@@ -70,10 +91,14 @@ fn run<F: Files, O: Sink>(
     ensures file_fault { result ≡ 5 → Rose (F.fault_count files.old) (F.fault_count files.new) }
     ensures output_fault { result ≡ 6 → Rose (O.fault_count out.old) (O.fault_count out.new) }
     ensures asked { AsksFirst (F.asked files.old) (F.asked files.new) (config.now ∷ script.now ∷ []) }
+    ensures asked_one { IfSome (F.content files.old) (λ content.
+        IsRefused (content config.now) → AsksFirst (F.asked files.old) (F.asked files.new) (config.now ∷ [])) }
+    ensures asked_both { IsOfContent result → F.asked files.new ≡ asks (config.now ∷ script.now ∷ []) (F.asked files.old) }
+    ensures form { result ≢ 2 }
 {
     match read_run(alloc, config, script, files) {
         Ok(run) => tell_run(alloc, &run, out),
-        Err(Stop::File) => tell_file(out),
+        Err(Stop::File) => tell_file(alloc, out),
         Err(Stop::TooLong { size }) => tell_too_long(alloc, size, out),
         Err(Stop::Config { key }) => tell_config(alloc, key, out),
         Err(Stop::Script { line }) => tell_script(alloc, line, out),

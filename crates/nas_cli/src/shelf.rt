@@ -11,7 +11,7 @@ use std::marker::Model;
 #[derive(Drop)]
 pub struct NamedFile {
     pub name: String,
-    pub octets: Octets1M,
+    pub octets: Vec<u8>,
 }
 
 /// Files in memory, which never fail. A file that isn't there is empty.
@@ -28,7 +28,7 @@ impl Model for MemoryFiles {
 
     ghost Value = { ShelfValue };
 
-    ghost view = { λ s. record { files = map (λ (f : NamedFile). (string_bytes f.name, f.octets)) s.files.items; asked = map string_bytes s.asked.items } };
+    ghost view = { λ s. record { files = map (λ (f : NamedFile). (string_bytes f.name, f.octets.items)) s.files.items; asked = map string_bytes s.asked.items } };
 }
 
 impl MemoryFiles {
@@ -42,12 +42,15 @@ impl MemoryFiles {
         }
     }
 
-    /// One more file, behind those that are there.
-    pub fn put(&mut self, alloc: Global, name: &str, octets: Octets1M) -> Result<(), Memory>
-        ensures ok { OnOk result (self.new ≡ record self.old { files = self.old.files ++ (name.now, octets) ∷ [] }) }
+    /// One more file, of any length, behind those that are there.
+    pub fn put(&mut self, alloc: Global, name: &str, octets: &[u8]) -> Result<(), Memory>
+        ensures ok { OnOk result (self.new ≡ record self.old { files = self.old.files ++ (name.now, octets.now) ∷ [] }) }
         ensures err { OnErr result (self.new ≡ self.old) }
     {
         let Ok(name) = String::from_str(alloc, name) else {
+            return Err(Memory);
+        };
+        let Ok(octets) = octets.to_vec(alloc) else {
             return Err(Memory);
         };
         match self.files.push(NamedFile { name, octets }) {
@@ -91,7 +94,7 @@ impl MemoryFiles {
 }
 
 impl MemoryFiles {
-    ghost use Rattle.std.specs.Prelude.{◌≡◌, Some};
+    ghost use Rattle.std.specs.Prelude.{◌≡◌, ◌≤◌, Some};
     ghost use Rattle.nas_cli.specs.Files.{AsksFor, ReadsFile};
     ghost use Rattle.nas_cli.specs.Shelf.{octets_named};
 
@@ -107,6 +110,7 @@ impl MemoryFiles {
 
     // The octets of the first file of this name, which is noted as asked for.
     fn serve(&mut self, alloc: Global, name: &str, limit: u32) -> Result<Octets1M, FileRefusal>
+        requires { limit ≤ 1048576 }
         ensures answer { ReadsFile (Some (λ n. Some (octets_named n self.old.files))) 0 0 name.now limit result }
         ensures files { self.new.files ≡ self.old.files }
         ensures asked { AsksFor (Some self.old.asked) (Some self.new.asked) name.now result }
@@ -117,11 +121,11 @@ impl MemoryFiles {
             self.note(alloc, name)?;
             return Err(FileRefusal::TooLong { size });
         }
-        let Ok(octets) = Octets1M::copy(alloc, octets) else {
+        let Ok(items) = octets.to_vec(alloc) else {
             return Err(FileRefusal::Memory);
         };
         self.note(alloc, name)?;
-        Ok(octets)
+        Ok(Octets1M { items })
     }
 }
 
@@ -183,16 +187,29 @@ impl FaultyFiles {
 }
 
 impl Files for FaultyFiles {
-    ghost use Rattle.std.specs.Prelude.{Some};
-    ghost use Rattle.nas_cli.specs.Shelf.{file_named};
+    ghost use Rattle.std.specs.Prelude.{◌≡◌, ◌+◌, ◌-◌, ◌^◌, ◌≤◌, ◌⊎◌, min, Some, None, Contains, IfErr, IsErr, IsErrOf};
+    ghost use Rattle.nas_cli.specs.Files.{AsksFor, ReadsFile};
+    ghost use Rattle.nas_cli.specs.Shelf.{file_named, told_by};
 
-    ghost content = { λ s. Some (λ name. file_named name s.shelf.files) };
+    ghost content = { λ s. told_by s.shelf.files };
 
     ghost asked = { λ s. Some s.shelf.asked };
 
     ghost fault_count = { λ s. s.faults };
 
-    fn read(&mut self, alloc: Global, name: &str, limit: u32) -> Result<Octets1M, FileRefusal> {
+    fn read(&mut self, alloc: Global, name: &str, limit: u32) -> Result<Octets1M, FileRefusal>
+        requires { limit ≤ 1048576 }
+        ensures answer { ReadsFile (told_by self.old.shelf.files) self.old.faults self.new.faults name.now limit result }
+        ensures content { told_by self.new.shelf.files ≡ told_by self.old.shelf.files }
+        ensures asked { AsksFor (Some self.old.shelf.asked) (Some self.new.shelf.asked) name.now result }
+
+        // It fails only at the calls that are listed, or where there is no such file; and there it answers nothing else
+        // but want of memory.
+        ensures list { self.new.failing ≡ self.old.failing }
+        ensures calls { self.new.calls ≡ min (self.old.calls + 1) (2 ^ 64 - 1) }
+        ensures failed { IsErrOf result FileRefusal.Failed → Contains self.old.failing self.new.calls ⊎ (file_named name.now self.old.shelf.files ≡ None) }
+        ensures listed { Contains self.old.failing self.new.calls → IfErr result (λ refusal. (refusal ≡ FileRefusal.Failed) ⊎ (refusal ≡ FileRefusal.Memory)) × IsErr result }
+    {
         self.calls = self.calls.saturating_add(1);
         if self.failing.contains(&self.calls) || self.shelf.find(name).is_none() {
             self.shelf.note(alloc, name)?;

@@ -1,4 +1,5 @@
 pub mod ConfigLaws
 pub mod DocumentLaws
 pub mod LinesLaws
+pub mod ScriptLaws
 pub mod TranscriptLaws

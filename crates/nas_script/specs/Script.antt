@@ -43,6 +43,10 @@ abbrev pub said_by : List ℕ → Option (Option Event)
 said_by line =
     if all_ascii line then (if is_event line then option_map Some (event_in line) else Some None) else None
 
+-- the text of an event
+abbrev pub text_of : Line → List ℕ
+text_of line = line.text
+
 -- a line before the events of those behind it
 abbrev pub with_line : ℕ → List ℕ → Option (Option Event) → Result (List Line) ScriptRefusal → Result (List Line) ScriptRefusal
 with_line number line None rest = Err (ScriptWrong number)

@@ -109,7 +109,7 @@ fn read_subscribers(
     let mut subscribers = Subscribers::new(alloc);
     for table in tables {
         let supi = needed(Key::Supi, new_supi_of(plmn, &subscribers, table))?;
-        subscribers.push(Subscriber { supi })?;
+        subscribers.push(alloc, Subscriber { supi })?;
     }
     Ok(subscribers)
 }

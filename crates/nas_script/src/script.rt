@@ -1,8 +1,8 @@
 //! The script.
-ghost use Rattle.std.specs.Prelude.{◌≡◌, ◌≤◌, ◌+◌, true, length, if◌then◌else◌, IfOk, OnOk};
+ghost use Rattle.std.specs.Prelude.{◌≡◌, ◌≤◌, ◌+◌, true, length, filter, map, if◌then◌else◌, IfOk, OnOk};
 ghost use Rattle.nas_world.specs.Script.{is_one_line};
 ghost use Rattle.nas_script.specs.Lines.{count_events, is_event, split};
-ghost use Rattle.nas_script.specs.Script.{ReadsLine, ReadsLines, events_in, script_in};
+ghost use Rattle.nas_script.specs.Script.{ReadsLine, ReadsLines, events_in, script_in, text_of};
 
 use crate::event_line::said_by;
 use nas_base::Octets1M;
@@ -35,7 +35,10 @@ pub enum ScriptRefusal {
 #[tactic(auto, unfolding(crate::specs::Script::script_in))]
 pub fn read_script(alloc: Global, octets: &[u8]) -> Result<Script, ScriptRefusal>
     requires { length octets.now ≤ 1048576 }
-    ensures { ReadsLines (λ script. script) result (script_in octets.now) }
+    ensures value { ReadsLines (λ script. script) result (script_in octets.now) }
+
+    // The texts of the events are the event lines of the file, as they were given.
+    ensures texts { IfOk result (λ script. map text_of script ≡ filter is_event (split octets.now)) }
 {
     let size = count(octets);
     if size > MOST_EVENTS {

@@ -46,7 +46,7 @@ pub fn transcript<O: Sink>(
     ensures { Tells is_output (O.written out.old) (O.written out.new) (O.fault_count out.old) (O.fault_count out.new) (transcript_of config.now script.now) result }
 {
     let mut world = World::new(alloc, config)?;
-    write_head(out)?;
+    write_head(alloc, out)?;
     let mut number = 0;
     for line in &script.items {
         number += 1;
@@ -56,10 +56,10 @@ pub fn transcript<O: Sink>(
 }
 
 // Writes octets to the sink.
-fn tell<O: Sink>(out: &mut O, octets: &[u8]) -> Result<(), TranscriptFault>
+fn tell<O: Sink>(alloc: Global, out: &mut O, octets: &[u8]) -> Result<(), TranscriptFault>
     ensures { Tells is_output (O.written out.old) (O.written out.new) (O.fault_count out.old) (O.fault_count out.new) octets.now result }
 {
-    match out.write(octets) {
+    match out.write(alloc, octets) {
         Ok(()) => Ok(()),
         Err(WriteRefusal::Failed) => Err(TranscriptFault::Output),
         Err(WriteRefusal::Memory) => Err(TranscriptFault::Memory),
@@ -68,10 +68,10 @@ fn tell<O: Sink>(out: &mut O, octets: &[u8]) -> Result<(), TranscriptFault>
 
 // Writes the first line.
 #[tactic(auto, unfolding(crate::specs::Transcript::head_text))]
-fn write_head<O: Sink>(out: &mut O) -> Result<(), TranscriptFault>
+fn write_head<O: Sink>(alloc: Global, out: &mut O) -> Result<(), TranscriptFault>
     ensures { Tells is_output (O.written out.old) (O.written out.new) (O.fault_count out.old) (O.fault_count out.new) head_text result }
 {
-    tell(out, b"nas transcript 1\n")
+    tell(alloc, out, b"nas transcript 1\n")
 }
 
 // Makes an event happen, and writes its lines.
@@ -99,7 +99,7 @@ fn write_event<O: Sink>(
         world,
         &seen,
     )?;
-    tell(out, text.as_slice())
+    tell(alloc, out, text.as_slice())
 }
 
 // Writes the last line.
@@ -113,5 +113,5 @@ fn write_end<O: Sink>(
 {
     let mut text = Vec::new(alloc);
     append_end(alloc, &mut text, number, world)?;
-    tell(out, text.as_slice())
+    tell(alloc, out, text.as_slice())
 }

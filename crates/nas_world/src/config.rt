@@ -40,7 +40,7 @@ impl Subscribers {
     }
 
     /// One more subscriber at the end.
-    pub fn push(&mut self, subscriber: Subscriber) -> Result<(), Memory>
+    pub fn push(&mut self, _alloc: Global, subscriber: Subscriber) -> Result<(), Memory>
         ensures ok { OnOk result (self.new ≡ self.old ++ subscriber ∷ []) }
         ensures err { OnErr result (self.new ≡ self.old) }
     {

@@ -33,7 +33,7 @@ pub fn is_rejected(alloc: Global, octets: &[u8]) -> Result<bool, Memory>
     ensures { IfOk result (λ rejected. rejected ≡ is_rejection (mm_in octets.now)) }
 {
     match decode_mm(alloc, octets) {
-        Ok(Mm::RegistrationReject { cause: _ }) => Ok(true),
+        Ok(Mm::RegistrationReject { cause }) => Ok(cause < 72 || 86 < cause),
         Ok(
             Mm::RegistrationRequest {
                 registration: _,

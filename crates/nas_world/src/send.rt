@@ -66,7 +66,7 @@ impl Sends {
     }
 
     /// One more message at the end.
-    pub fn push(&mut self, send: Send) -> Result<(), Memory>
+    pub fn push(&mut self, _alloc: Global, send: Send) -> Result<(), Memory>
         ensures ok { OnOk result (self.new ≡ self.old ++ send ∷ []) }
         ensures err { OnErr result (self.new ≡ self.old) }
     {

@@ -148,7 +148,7 @@ fn send(alloc: Global, log: &mut Sends, fresh: bool, message: &Mm) -> Result<Sen
         octets,
     };
     let mut sends = Sends::new(alloc);
-    sends.push(sent.copy(alloc)?)?;
-    log.push(sent)?;
+    sends.push(alloc, sent.copy(alloc)?)?;
+    log.push(alloc, sent)?;
     Ok(sends)
 }
