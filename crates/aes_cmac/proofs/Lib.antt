@@ -1,0 +1,2 @@
+pub mod AllOctets
+pub mod Vectors
