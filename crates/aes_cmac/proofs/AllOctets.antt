@@ -16,16 +16,16 @@ on_each f g all a h =
     ∙ ap (λ (xs : List ℕ). get_or xs a 0) all
     ∙ get_or-map-range_with_len g 0 256 a a 0 h (omega arith)
 
--- a list of 256 octets that a function gives has at each place what the function gives there
-pub at_each : (f : ℕ → ℕ) (xs : List ℕ) → xs ≡ map f all_octets → (a : ℕ) → a < 256 → get_or xs a 0 ≡ f a
-at_each f xs all a h = ap (λ (ys : List ℕ). get_or ys a 0) all ∙ get_or-map-range_with_len f 0 256 a a 0 h (omega arith)
+-- a list of what a function gives of 0, 1, .. up to n has at each place what the function gives of it
+pub at_each : (f : ℕ → ℕ) (n : ℕ) (xs : List ℕ) → xs ≡ map f (range_with_len 0 n) → (a : ℕ) → a < n → get_or xs a 0 ≡ f a
+at_each f n xs all a h = ap (λ (ys : List ℕ). get_or ys a 0) all ∙ get_or-map-range_with_len f 0 n a a 0 h (omega arith)
 
 pub SUBSTITUTION_lem : SUBSTITUTION ≡ map sub all_octets
 unfolding ◌•◌ inverse sub
 SUBSTITUTION_lem = refl
 
 pub substitution_at : (a : ℕ) → a < 256 → get_or SUBSTITUTION a 0 ≡ sub a
-substitution_at a h = at_each sub SUBSTITUTION SUBSTITUTION_lem a h
+substitution_at a h = at_each sub 256 SUBSTITUTION SUBSTITUTION_lem a h
 
 pub twice_all : map (λ a. bit_xor (a * 2 % 256) (a / 128 * 27)) all_octets ≡ map (λ a. 2 • a) all_octets
 unfolding ◌•◌

@@ -77,16 +77,24 @@ next_round_key constant k =
     running_sums (add_words (sub_word (rot_word (column k 3))) (constant ∷ 0 ∷ 0 ∷ 0 ∷ []))
     (column k 0 ∷ column k 1 ∷ column k 2 ∷ column k 3 ∷ [])
 
+-- the round keys: the key itself, and ten more (5.2)
 unfoldable pub round_key : List ℕ → ℕ → List (List ℕ)
 round_key key zero = columns key
 round_key key (suc n) = next_round_key (round_constant n) (round_key key n)
 
--- the state behind n rounds with mixing (5.1)
-unfoldable pub state_behind : List ℕ → List ℕ → ℕ → List (List ℕ)
-state_behind key block zero = add_round_key (columns block) (round_key key 0)
-state_behind key block (suc n) =
-    add_round_key (mix_columns (shift_rows (sub_bytes (state_behind key block n)))) (round_key key (suc n))
+unfoldable pub key_expansion : List ℕ → List (List (List ℕ))
+key_expansion key = map (round_key key) (range_with_len 0 11)
 
--- nine rounds, and a last one without mixing (5.1)
-unfoldable pub aes : List ℕ → List ℕ → List ℕ
-aes key block = octets_of (add_round_key (shift_rows (sub_bytes (state_behind key block 9))) (round_key key 10))
+-- the state behind n rounds with mixing (5.1)
+unfoldable pub state_behind : List (List (List ℕ)) → List ℕ → ℕ → List (List ℕ)
+state_behind keys block zero = add_round_key (columns block) (slice_index_or keys 0 [])
+state_behind keys block (suc n) =
+    add_round_key (mix_columns (shift_rows (sub_bytes (state_behind keys block n)))) (slice_index_or keys (suc n) [])
+
+-- the cipher under round keys: nine rounds, and a last one without mixing (5.1)
+unfoldable pub cipher : List (List (List ℕ)) → List ℕ → List ℕ
+cipher keys block = octets_of (add_round_key (shift_rows (sub_bytes (state_behind keys block 9))) (slice_index_or keys 10 []))
+
+-- AES-128 under a key (5)
+abbrev pub aes : List ℕ → List ℕ → List ℕ
+aes key = cipher (key_expansion key)
