@@ -1,0 +1,3 @@
+pub mod AllOctets
+pub mod RoundLemmas
+pub mod Vectors
