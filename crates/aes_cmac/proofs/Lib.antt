@@ -1,3 +1,6 @@
 pub mod AllOctets
+pub mod BlockLemmas
+pub mod CmacLemmas
+pub mod CtrLemmas
 pub mod RoundLemmas
 pub mod Vectors

@@ -3,6 +3,7 @@ use Rattle.std.specs.Prelude.{ℕ, ◌+◌, ◌*◌, ◌^◌, List, ◌++◌, ta
 use Rattle.std.specs.Int.{w64, to_be_bytes}
 use Rattle.nas_base.specs.declared.count.Dir.{Dir}
 use Rattle.nas_base.specs.declared.count.Dir.TheVariants.{Up, Down}
+use Rattle.aes_cmac.specs.Aes.{aes}
 use Rattle.aes_cmac.specs.Cmac.{cmac}
 use Rattle.aes_cmac.specs.Ctr.{ctr}
 
@@ -21,8 +22,8 @@ head count dir = to_be_bytes w64 (count * 2 ^ 32 + bearer * 2 ^ 27 + direction_b
 
 -- the first 32 bits of the CMAC of those 64 bits and the message (TS 33.401 B.2.3)
 abbrev pub nia2 : List ℕ → ℕ → Dir → List ℕ → List ℕ
-nia2 key count dir octets = take 4 (cmac key (head count dir ++ octets))
+nia2 key count dir octets = take 4 (cmac (aes key) (head count dir ++ octets))
 
 -- the counter begins at those 64 bits and 64 zero bits (TS 33.401 B.1.3)
 abbrev pub nea2 : List ℕ → ℕ → Dir → List ℕ → List ℕ
-nea2 key count dir octets = ctr key (head count dir ++ replicate 8 0) octets
+nea2 key count dir octets = ctr (aes key) (head count dir ++ replicate 8 0) octets
