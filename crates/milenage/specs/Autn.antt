@@ -6,10 +6,10 @@ use Rattle.milenage.specs.Milenage.{f1, f2, f3, f4, f5}
 use Rattle.milenage.specs.declared.vector.Vector.{Vector}
 
 -- a sequence number as SQN, 48 bits, and back
-abbrev pub sqn_octets : ℕ → List ℕ
+unfoldable pub sqn_octets : ℕ → List ℕ
 sqn_octets n = big_bytes 6 n
 
-abbrev pub sqn_number : List ℕ → ℕ
+unfoldable pub sqn_number : List ℕ → ℕ
 sqn_number sqn = big_number 6 sqn
 
 -- AUTN: SQN XOR AK, the AMF field, MAC-A

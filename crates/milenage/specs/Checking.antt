@@ -1,5 +1,5 @@
 -- What a handset makes of RAND and AUTN (TS 33.102 clauses 6.3.3 and 6.3.5, TS 33.501 clause 6.1.3.2).
-use Rattle.std.specs.Prelude.{ℕ, Bool, not, List, [], ◌∷◌, ◌++◌, slice_index, nat_lt, Option, Some, None, if◌then◌else◌}
+use Rattle.std.specs.Prelude.{ℕ, ◌<◌, ◌^◌, Bool, not, List, [], ◌∷◌, ◌++◌, slice_index, nat_lt, nat_le, Option, Some, None, if◌then◌else◌}
 use Rattle.std.specs.Str.{bytes_eq}
 use Rattle.milenage.specs.Octets.{◌⊕◌, part}
 use Rattle.milenage.specs.Milenage.{f1, f1_star, f2, f3, f4, f5, f5_star}
@@ -27,7 +27,7 @@ mac_in autn = part 8 8 autn
 
 -- the first bit of an AMF field, which says that the vector is one for 5G
 abbrev pub is_for_5g : List ℕ → Bool
-is_for_5g field = not (nat_lt (slice_index field 0) 128)
+is_for_5g field = nat_le 128 (slice_index field 0)
 
 -- A sequence number is fresh where it is greater than the greatest that was accepted.
 abbrev pub fresh_answer : List ℕ → List ℕ → List ℕ → ℕ → ℕ → AutnAnswer
@@ -41,6 +41,13 @@ checked k opc rand autn sqn_ms =
     if not (bytes_eq (f1 k opc rand (sqn_in k opc rand autn) (field_in autn)) (mac_in autn)) then MacFailure
     else (if not (is_for_5g (field_in autn)) then NotFiveG
     else fresh_answer k opc rand (sqn_number (sqn_in k opc rand autn)) sqn_ms)
+
+-- the sequence number that is accepted has 48 bits
+abbrev pub SqnFits : AutnAnswer → Type 0
+SqnFits (Accepted n res ck ik ak) = n < 2 ^ 48
+SqnFits MacFailure = Unit {0}
+SqnFits NotFiveG = Unit {0}
+SqnFits (SynchFailure auts) = Unit {0}
 
 -- what a home network makes of AUTS: SQN_MS, where MAC-S is the right one
 unfoldable pub opened : List ℕ → List ℕ → List ℕ → List ℕ → Option ℕ

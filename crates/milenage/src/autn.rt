@@ -1,6 +1,6 @@
 //! What a handset makes of a challenge (TS 33.102 clause 6.3.3).
 ghost use Rattle.std.specs.Prelude.{◌≡◌, ◌<◌, ◌^◌};
-ghost use Rattle.milenage.specs.Checking.{auts, checked};
+ghost use Rattle.milenage.specs.Checking.{SqnFits, auts, checked};
 
 use crate::octets::{joined, part, sqn_number, sqn_octets, xor};
 use crate::{f1, f1_star, f5_star, f2345};
@@ -38,7 +38,8 @@ pub fn check_autn(
     sqn_ms: u64,
 ) -> AutnAnswer
     requires { sqn_ms < 2 ^ 48 }
-    ensures { result ≡ checked k.now opc.now rand.now autn.now sqn_ms }
+    ensures value { result ≡ checked k.now opc.now rand.now autn.now sqn_ms }
+    ensures limit { SqnFits result }
 {
     let keys = f2345(k, opc, rand);
     let sqn = xor(&part(0, autn), &keys.ak);

@@ -60,7 +60,6 @@ pub fn f1_star(
 }
 
 /// RES, CK, IK and AK of a challenge.
-#[tactic(auto, unfolding(crate::specs::Milenage::f2, crate::specs::Milenage::f3, crate::specs::Milenage::f4, crate::specs::Milenage::f5))]
 pub fn f2345(k: &[u8; 16], opc: &[u8; 16], rand: &[u8; 16]) -> F2345
     ensures { result ≡ f2345 k.now opc.now rand.now }
 {

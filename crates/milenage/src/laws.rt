@@ -16,8 +16,8 @@ pub fn vector_is_taken(
     ensures { VectorIsTaken k.now opc.now rand.now sqn field.now sqn_ms }
 {}
 
-/// AUTS tells the home network of the same keys the handset's sequence number.
-pub fn auts_opens(k: &[u8; 16], opc: &[u8; 16], rand: &[u8; 16], sqn_ms: u64)
+/// The AUTS of an answer tells the home network of the same keys the handset's sequence number.
+pub fn auts_opens(k: &[u8; 16], opc: &[u8; 16], rand: &[u8; 16], autn: &[u8; 16], sqn_ms: u64)
     requires { sqn_ms < 2 ^ 48 }
-    ensures { AutsOpens k.now opc.now rand.now sqn_ms }
+    ensures { AutsOpens k.now opc.now rand.now autn.now sqn_ms }
 {}

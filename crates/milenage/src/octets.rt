@@ -50,6 +50,7 @@ pub fn rotated(mut block: [u8; 16], bits: usize) -> [u8; 16]
 }
 
 /// A sequence number as SQN.
+#[tactic(auto, unfolding(crate::specs::Autn::sqn_octets))]
 pub fn sqn_octets(number: u64) -> [u8; 6]
     requires { number < 2 ^ 48 }
     ensures { result ≡ sqn_octets number }
@@ -60,8 +61,10 @@ pub fn sqn_octets(number: u64) -> [u8; 6]
 }
 
 /// The sequence number of SQN.
+#[tactic(auto, unfolding(crate::specs::Autn::sqn_number))]
 pub fn sqn_number(sqn: &[u8; 6]) -> u64
-    ensures { result ≡ sqn_number sqn.now }
+    ensures value { result ≡ sqn_number sqn.now }
+    ensures limit { result < 2 ^ 48 }
 {
     BigEndian::read_u48(sqn)
 }

@@ -1,7 +1,6 @@
-use Rattle.std.proofs.Common.{◌≡◌}
 use Rattle.milenage.specs.Milenage.{f2, f3, f4, f5}
 use Rattle.milenage.proofs.functions.f2345.Goals as goal
 
 pub returns : goal.returns
 unfolding f2 f3 f4 f5
-returns c = cc (c.part.ensures, c.part-2.ensures, c.out.ensures, c.out-2.ensures, c.out-out2.ensures, c.temp-temp.ensures)
+returns c = cc
