@@ -3,7 +3,7 @@ ghost use Rattle.std.specs.Prelude.{◌≡◌, ◌<◌, ◌^◌};
 ghost use Rattle.milenage.specs.Checking.{SqnFits, auts, checked};
 
 use crate::octets::{joined, part, sqn_number, sqn_octets, xor};
-use crate::{f1, f1_star, f5_star, f2345};
+use crate::{F2345, f1, f1_star, f5_star, f2345};
 
 /// The answer to RAND and AUTN.
 #[derive(Clone, Copy, PartialEq, Eq)]
@@ -41,8 +41,8 @@ pub fn check_autn(
     ensures value { result ≡ checked k.now opc.now rand.now autn.now sqn_ms }
     ensures limit { SqnFits result }
 {
-    let keys = f2345(k, opc, rand);
-    let sqn = xor(&part(0, autn), &keys.ak);
+    let F2345 { res, ck, ik, ak } = f2345(k, opc, rand);
+    let sqn = xor(&part(0, autn), &ak);
     let field: [u8; 2] = part(6, autn);
     let mac: [u8; 8] = part(8, autn);
     if f1(k, opc, rand, &sqn, &field) != mac {
@@ -59,10 +59,10 @@ pub fn check_autn(
     }
     AutnAnswer::Accepted {
         sqn: number,
-        res: keys.res,
-        ck: keys.ck,
-        ik: keys.ik,
-        ak: keys.ak,
+        res,
+        ck,
+        ik,
+        ak,
     }
 }
 

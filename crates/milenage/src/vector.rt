@@ -3,7 +3,7 @@ ghost use Rattle.std.specs.Prelude.{◌≡◌, ◌<◌, ◌^◌};
 ghost use Rattle.milenage.specs.Autn.{vector};
 
 use crate::octets::{joined, sqn_octets, xor};
-use crate::{f1, f2345};
+use crate::{F2345, f1, f2345};
 
 /// What a home network makes for one challenge.
 #[derive(Clone, Copy, PartialEq, Eq)]
@@ -32,16 +32,17 @@ pub fn make_vector(
     requires { sqn < 2 ^ 48 }
     ensures { result ≡ vector k.now opc.now rand.now sqn field.now }
 {
-    let keys = f2345(k, opc, rand);
+    let F2345 { res, ck, ik, ak } = f2345(k, opc, rand);
     let number = sqn_octets(sqn);
-    let front: [u8; 8] = joined(&xor(&number, &keys.ak), field);
+    let front: [u8; 8] = joined(&xor(&number, &ak), field);
+    let autn = joined(&front, &f1(k, opc, rand, &number, field));
     Vector {
         sqn,
         rand: *rand,
-        autn: joined(&front, &f1(k, opc, rand, &number, field)),
-        res: keys.res,
-        ck: keys.ck,
-        ik: keys.ik,
-        ak: keys.ak,
+        autn,
+        res,
+        ck,
+        ik,
+        ak,
     }
 }
