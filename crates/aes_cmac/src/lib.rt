@@ -1,6 +1,7 @@
 //! AES-128, and what 5GS security makes of it.
 #![tactic(auto)]
 
+mod algorithms;
 mod blocks;
 mod cipher;
 mod counter;
@@ -11,6 +12,7 @@ mod schedule;
 mod state;
 mod substitution;
 
+pub use crate::algorithms::{nea2, nia2};
 pub use crate::cipher::encrypt_block;
 pub use crate::counter::ctr_apply;
 pub use crate::mac::cmac;

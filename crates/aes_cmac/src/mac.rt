@@ -4,12 +4,9 @@ ghost use Rattle.aes_cmac.specs.Aes.{aes, cipher};
 ghost use Rattle.aes_cmac.specs.Blocks.{xor_of};
 ghost use Rattle.aes_cmac.specs.Cmac.{cmac, cmac_from, doubled_block, last_block, padded};
 
-use crate::blocks::{Block, add_mask};
+use crate::blocks::{Block, ZERO_BLOCK, add_mask};
 use crate::cipher::enciphered;
 use crate::schedule::{RoundKeys, round_keys};
-
-// const_Zero (RFC 4493 section 2.2).
-const ZERO_BLOCK: Block = [0; 16];
 
 // const_Rb (RFC 4493 section 2.2).
 const REDUCTION: u128 = 0x87;
