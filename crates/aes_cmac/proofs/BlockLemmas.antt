@@ -1,7 +1,6 @@
 -- Sums of strings, and their blocks.
-use Rattle.std.proofs.Common.{◌≡◌, refl, sym, ap, ◌∙◌, ℕ, suc, ◌+◌, ◌-◌, ◌*◌, ◌<◌, ◌≤◌, min, List, [], ◌∷◌, length, take, drop, arith}
+use Rattle.std.proofs.Common.{◌≡◌, ℕ, ◌-◌, ◌*◌, min, List, [], ◌∷◌, length, drop, arith}
 use Rattle.std.proofs.lemmas.List.{length-take, length-drop}
-use Rattle.std.proofs.lemmas.Grind.{common_steps}
 use Rattle.aes_cmac.specs.Blocks.{xor_of, block_at}
 
 pub length-xor_of : (xs ys : List ℕ) → length (xor_of xs ys) ≡ min (length xs) (length ys)

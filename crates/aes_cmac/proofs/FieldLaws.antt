@@ -1,5 +1,5 @@
 -- The inverse is one: times the element it gives 1, for each element but 0.
-use Rattle.std.proofs.Common.{◌≡◌, refl, ℕ, map, replicate}
+use Rattle.std.proofs.Common.{◌≡◌, refl, map, replicate}
 use Rattle.std.specs.List.{range_with_len}
 use Rattle.aes_cmac.specs.Field.{◌•◌, inverse}
 

@@ -3,7 +3,7 @@ use Rattle.std.proofs.Common.{◌≡◌, refl, ℕ, List, [], ◌∷◌, ◌++�
 use Rattle.std.specs.Int.{w128, to_be_bytes}
 use Rattle.aes_cmac.specs.Field.{◌•◌, inverse}
 use Rattle.aes_cmac.specs.Aes.{sub, sub_bytes, shift_rows, mix_columns, add_round_key, round_constant, next_round_key, round_key, key_expansion, state_behind, cipher, aes}
-use Rattle.aes_cmac.specs.Cmac.{zero_block, doubled_block, first_subkey, second_subkey, last_block, chained, cmac_from, cmac}
+use Rattle.aes_cmac.specs.Cmac.{doubled_block, first_subkey, second_subkey, last_block, chained, cmac_from, cmac}
 use Rattle.aes_cmac.specs.Ctr.{counter_block, ctr}
 
 -- a block by its number
@@ -32,7 +32,7 @@ round_key_lem = refl
 -- two blocks (FIPS 197 of 2001, appendices B and C.1)
 pub aes_lem : (aes key (block 0x3243f6a8885a308d313198a2e0370734) ≡ block 0x3925841d02dc09fbdc118597196a0b32)
     × (aes (block 0x000102030405060708090a0b0c0d0e0f) (block 0x00112233445566778899aabbccddeeff) ≡ block 0x69c4e0d86a7b0430d8cdb78070b4c55a)
-unfolding ◌•◌ inverse sub sub_bytes shift_rows mix_columns add_round_key round_constant next_round_key round_key key_expansion state_behind cipher
+unfolding ◌•◌ inverse sub sub_bytes shift_rows mix_columns add_round_key round_constant next_round_key round_key key_expansion state_behind cipher aes
 aes_lem = (refl, refl)
 
 -- four blocks in the counter mode (SP 800-38A appendix F.5.1), and the first octets of them
@@ -48,18 +48,18 @@ ciphered =
 
 pub ctr_lem : (ctr (aes key) (block 0xf0f1f2f3f4f5f6f7f8f9fafbfcfdfeff) text ≡ ciphered)
     × (ctr (aes key) (block 0xf0f1f2f3f4f5f6f7f8f9fafbfcfdfeff) (take 21 text) ≡ take 21 ciphered)
-unfolding ◌•◌ inverse sub sub_bytes shift_rows mix_columns add_round_key round_constant next_round_key round_key key_expansion state_behind cipher counter_block ctr
+unfolding ◌•◌ inverse sub sub_bytes shift_rows mix_columns add_round_key round_constant next_round_key round_key key_expansion state_behind cipher aes counter_block ctr
 ctr_lem = (refl, refl)
 
 -- the subkeys, and the MACs of 0, 16, 40 and 64 octets (RFC 4493 section 4)
 pub subkey_lem : (first_subkey (aes key) ≡ block 0xfbeed618357133667c85e08f7236a8de)
     × (second_subkey (aes key) ≡ block 0xf7ddac306ae266ccf90bc11ee46d513b)
-unfolding ◌•◌ inverse sub sub_bytes shift_rows mix_columns add_round_key round_constant next_round_key round_key key_expansion state_behind cipher doubled_block
+unfolding ◌•◌ inverse sub sub_bytes shift_rows mix_columns add_round_key round_constant next_round_key round_key key_expansion state_behind cipher aes doubled_block
 subkey_lem = (refl, refl)
 
 pub cmac_lem : (cmac (aes key) [] ≡ block 0xbb1d6929e95937287fa37d129b756746)
     × (cmac (aes key) (take 16 text) ≡ block 0x070a16b46b4d4144f79bdd9dd04a287c)
     × (cmac (aes key) (take 40 text) ≡ block 0xdfa66747de9ae63030ca32611497c827)
     × (cmac (aes key) text ≡ block 0x51f0bebf7e3b9d92fc49741779363cfe)
-unfolding ◌•◌ inverse sub sub_bytes shift_rows mix_columns add_round_key round_constant next_round_key round_key key_expansion state_behind cipher doubled_block last_block chained cmac_from
+unfolding ◌•◌ inverse sub sub_bytes shift_rows mix_columns add_round_key round_constant next_round_key round_key key_expansion state_behind cipher aes doubled_block last_block chained cmac_from
 cmac_lem = (refl, refl, refl, refl)

@@ -6,14 +6,16 @@ ghost use Rattle.aes_cmac.specs.Nas.{direction_bit, head, nea2, nia2};
 
 use crate::blocks::{Block, ZERO_BLOCK};
 use crate::counter::ctr_apply;
-use crate::mac::{mac_from, next_sum};
+use crate::mac::{mac_from, next_chain};
 use crate::schedule::{RoundKeys, round_keys};
 use nas_base::{Count, Dir};
 
 // The NAS connection over 3GPP access.
 const BEARER: u64 = 1;
 
-/// The MAC of 128-NIA2 over the octets: the sequence number, and the message as it is sent (TS 33.501 clause D.3.1.3).
+/// The MAC of 128-NIA2 on the NAS connection over 3GPP access (TS 33.501 clause D.3.1.3). The octets are the sequence number
+/// and the message behind it, as they are sent.
+#[tactic(auto, unfolding(crate::specs::Nas::nia2, crate::specs::Aes::aes))]
 pub fn nia2(key: &[u8; 16], count: Count, dir: Dir, octets: &[u8]) -> [u8; 4]
     ensures { result ≡ nia2 key.now count dir octets.now }
 {
@@ -21,7 +23,8 @@ pub fn nia2(key: &[u8; 16], count: Count, dir: Dir, octets: &[u8]) -> [u8; 4]
     [mac[0], mac[1], mac[2], mac[3]]
 }
 
-/// Enciphers the octets in place by 128-NEA2, or deciphers them (TS 33.501 clause D.2.1.3).
+/// Enciphers a message in place by 128-NEA2 on the NAS connection over 3GPP access, or deciphers it (TS 33.501 clause D.2.1.3).
+#[tactic(auto, unfolding(crate::specs::Nas::nea2))]
 pub fn nea2(key: &[u8; 16], count: Count, dir: Dir, octets: &mut [u8])
     ensures { octets.new ≡ nea2 key.now count dir octets.old }
 {
@@ -29,6 +32,7 @@ pub fn nea2(key: &[u8; 16], count: Count, dir: Dir, octets: &mut [u8])
 }
 
 // COUNT in 32 bits, BEARER in 5, DIRECTION in 1, and 26 zero bits.
+#[tactic(auto, unfolding(crate::specs::Nas::head))]
 fn head_of(count: Count, dir: Dir) -> [u8; 8]
     ensures { result ≡ head count dir }
 {
@@ -54,8 +58,8 @@ fn mac_behind_head(keys: &RoundKeys, head: &[u8; 8], octets: &[u8]) -> Block
         return mac_from(keys, &ZERO_BLOCK, &first[..8 + octets.len()]);
     }
     let (front, behind) = octets.split_at(8);
-    let sum = next_sum(keys, &ZERO_BLOCK, &head_block(head, front));
-    mac_from(keys, &sum, behind)
+    let chain = next_chain(keys, &ZERO_BLOCK, &head_block(head, front));
+    mac_from(keys, &chain, behind)
 }
 
 // The head and up to 8 octets, filled up with zeros.

@@ -48,7 +48,11 @@ fn counts_blocks(rt: HostRuntime) {
     let first: u128 = 0xf0f1_f2f3_f4f5_f6f7_f8f9_fafb_fcfd_feff;
     for size in [0, 1, 16, 21, 64] {
         let mut octets = TEXT;
-        ctr_apply(&KEY.to_be_bytes(), &first.to_be_bytes(), &mut octets[..size]);
+        ctr_apply(
+            &KEY.to_be_bytes(),
+            &first.to_be_bytes(),
+            &mut octets[..size],
+        );
         assert_eq!(rt; octets[..size], CIPHERED[..size]);
         assert_eq!(rt; octets[size..], TEXT[size..]);
     }

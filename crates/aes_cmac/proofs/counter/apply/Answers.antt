@@ -1,4 +1,4 @@
-use Rattle.std.proofs.Common.{◌∙◌, arith, ap, length}
+use Rattle.std.proofs.Common.{arith}
 use Rattle.aes_cmac.specs.Aes.{cipher}
 use Rattle.aes_cmac.proofs.CtrLemmas.{length-cipher, done_none, done_more, done_all}
 use Rattle.aes_cmac.proofs.counter.apply.Goals as goal
