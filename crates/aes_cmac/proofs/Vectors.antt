@@ -4,7 +4,7 @@ use Rattle.std.specs.Int.{w128, to_be_bytes}
 use Rattle.aes_cmac.specs.Field.{◌•◌, inverse}
 use Rattle.aes_cmac.specs.Aes.{sub, sub_bytes, shift_rows, mix_columns, add_round_key, round_constant, next_round_key, round_key, key_expansion, state_behind, cipher, aes}
 use Rattle.aes_cmac.specs.Cmac.{doubled_block, first_subkey, second_subkey, last_block, chained, cmac_from, cmac}
-use Rattle.aes_cmac.specs.Ctr.{counter_block, ctr}
+use Rattle.aes_cmac.specs.Ctr.{counter_block, key_stream, ctr}
 
 -- a block by its number
 abbrev pub block : ℕ → List ℕ
@@ -48,7 +48,7 @@ ciphered =
 
 pub ctr_lem : (ctr (aes key) (block 0xf0f1f2f3f4f5f6f7f8f9fafbfcfdfeff) text ≡ ciphered)
     × (ctr (aes key) (block 0xf0f1f2f3f4f5f6f7f8f9fafbfcfdfeff) (take 21 text) ≡ take 21 ciphered)
-unfolding ◌•◌ inverse sub sub_bytes shift_rows mix_columns add_round_key round_constant next_round_key round_key key_expansion state_behind cipher aes counter_block ctr
+unfolding ◌•◌ inverse sub sub_bytes shift_rows mix_columns add_round_key round_constant next_round_key round_key key_expansion state_behind cipher aes counter_block key_stream ctr
 ctr_lem = (refl, refl)
 
 -- the subkeys, and the MACs of 0, 16, 40 and 64 octets (RFC 4493 section 4)
