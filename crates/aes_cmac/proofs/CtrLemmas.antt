@@ -71,40 +71,50 @@ pub done_more : (ciph : List ℕ → List ℕ) (first old octets : List ℕ) (n 
     → IsDoneTo ciph first old (n + 1) (put_mid (16 * n) k octets ys) ((counter + 1) % 2 ^ 128)
 done_more ciph first old octets n counter k block ys blocks are within cut encoded e = record {
   front =
-    ap₂ (λ (a b : List ℕ). a ++ b) before (ap₂ (λ (a b : List ℕ). a ++ b) here behind)
-    ∙ sym (append_assoc done (xor_of part (ciph (counter_block first n))) (drop (16 * (n + 1)) old))
-    ∙ ap (λ (a : List ℕ). a ++ drop (16 * (n + 1)) old) (sym whole);
+      ap₂ (λ (a b : List ℕ). a ++ b) before (ap₂ (λ (a b : List ℕ). a ++ b) here behind)
+      ∙ sym (append_assoc done (xor_of part (ciph (counter_block first n))) (drop (16 * (n + 1)) old))
+      ∙ ap (λ (a : List ℕ). a ++ drop (16 * (n + 1)) old) (sym whole);
   counted = counted_more (from_be_bytes w128 first) n counter are.counted;
 }
   where
     done : List ℕ
     done = xor_of (take (16 * n) old) (key_stream ciph first n)
+
     part : List ℕ
     part = take 16 (drop (16 * n) old)
+
     taken : length (take (16 * n) old) ≡ 16 * n
     taken = length-take-le (16 * n) old (omega arith)
+
     streamed : length (key_stream ciph first n) ≡ 16 * n
     streamed = length-key_stream ciph first blocks n
+
     size : length done ≡ 16 * n
     size = length-xor_of (take (16 * n) old) (key_stream ciph first n) ∙ omega (arith, taken, streamed)
+
     before : take (16 * n) octets ≡ done
     before = ap (take (16 * n)) are.front ∙ take_at done (drop (16 * n) old) (16 * n) size
+
     left : drop (16 * n) octets ≡ drop (16 * n) old
     left = ap (drop (16 * n)) are.front ∙ drop_at done (drop (16 * n) old) (16 * n) size
+
     k_is : k ≡ min 16 (length (drop (16 * n) old))
     k_is = cut ∙ ap (min 16) (sym (length-drop (16 * n) old))
+
     here : ys ≡ xor_of part (ciph (counter_block first n))
     here =
         e
         ∙ ap₂ (λ (a b : List ℕ). xor_of a (ciph b))
-          (ap₂ (λ (m : ℕ) (xs : List ℕ). take m xs) k_is left ∙ take_min 16 (drop (16 * n) old))
-          (encoded ∙ counter_block_is first n counter are.counted)
+        (ap₂ (λ (m : ℕ) (xs : List ℕ). take m xs) k_is left ∙ take_min 16 (drop (16 * n) old))
+        (encoded ∙ counter_block_is first n counter are.counted)
+
     behind : drop k (drop (16 * n) octets) ≡ drop (16 * (n + 1)) old
     behind =
         ap₂ (λ (m : ℕ) (xs : List ℕ). drop m xs) k_is left
         ∙ drop_min 16 (drop (16 * n) old)
         ∙ drop-drop 16 (16 * n) old
         ∙ ap (λ m. drop m old) (omega arith)
+
     whole : xor_of (take (16 * (n + 1)) old) (key_stream ciph first (n + 1)) ≡ done ++ xor_of part (ciph (counter_block first n))
     whole =
         ap₂ xor_of (ap (λ m. take m old) (omega arith) ∙ take-add (16 * n) 16 old) (key_stream_more ciph first n)
@@ -117,8 +127,8 @@ unfolding ctr
 done_all ciph first old octets n counter e are =
     are.front
     ∙ ap₂ (λ (a b : List ℕ). a ++ b)
-      (ap₂ (λ (a : List ℕ) (m : ℕ). xor_of a (key_stream ciph first m)) (take_all (16 * n) old enough) e)
-      (drop_all (16 * n) old enough)
+    (ap₂ (λ (a : List ℕ) (m : ℕ). xor_of a (key_stream ciph first m)) (take_all (16 * n) old enough) e)
+    (drop_all (16 * n) old enough)
     ∙ append-nil (xor_of old (key_stream ciph first (block_count old)))
   where
     enough : length old ≤ 16 * n

@@ -4,5 +4,6 @@ pub mod CmacLemmas
 pub mod CtrLemmas
 pub mod FieldLaws
 pub mod HeadLemmas
+pub mod Laws
 pub mod RoundLemmas
 pub mod Vectors
