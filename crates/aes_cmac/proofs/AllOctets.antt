@@ -1,9 +1,9 @@
 -- What holds of each octet, as it is computed of all 256.
-use Rattle.std.proofs.Common.{◌≡◌, refl, sym, ap, ◌∙◌, ℕ, ◌*◌, ◌/◌, ◌%◌, ◌<◌, List, map, get_or, cond, nat_lt, bit_xor, arith}
+use Rattle.std.proofs.Common.{◌≡◌, refl, sym, ap, ◌∙◌, ℕ, ◌*◌, ◌/◌, ◌%◌, ◌<◌, List, map, get_or, bit_xor, arith}
 use Rattle.std.specs.List.{range_with_len}
 use Rattle.std.proofs.lemmas.List.FromFn.{get_or-map-range_with_len}
 use Rattle.aes_cmac.specs.declared.substitution.TheConstants.{SUBSTITUTION}
-use Rattle.aes_cmac.specs.Field.{◌•◌, ◌⊕◌, times_x, inverse}
+use Rattle.aes_cmac.specs.Field.{◌•◌, inverse}
 use Rattle.aes_cmac.specs.Aes.{sub}
 
 abbrev pub all_octets : List ℕ

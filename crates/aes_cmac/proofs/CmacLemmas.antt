@@ -1,13 +1,10 @@
 -- CMAC, block by block.
-use Rattle.std.proofs.Common.{◌≡◌, refl, sym, ap, ◌∙◌, ℕ, zero, suc, ◌+◌, ◌-◌, ◌*◌, ◌/◌, ◌%◌, ◌^◌, ◌<◌, ◌≤◌, bit_xor, nat_lt, cond, true, false, List, [], ◌∷◌, ◌++◌, length, take, drop, ⊎_elim, arith, lit<}
+use Rattle.std.proofs.Common.{◌≡◌, refl, sym, ap, ◌∙◌, ℕ, zero, suc, ◌*◌, ◌/◌, ◌%◌, ◌^◌, ◌<◌, ◌≤◌, bit_xor, nat_lt, List, length, take, drop, ⊎_elim, arith}
 use Rattle.std.proofs.Math.Path.{ap₂}
-use Rattle.std.proofs.Math.Nat.{mod-eq_of_lt}
 use Rattle.std.proofs.lemmas.List.{length-drop, drop-drop}
-use Rattle.std.proofs.lemmas.Grind.{div_ceil_times}
 use Rattle.std.proofs.lemmas.Bool.{cases_lt, lt-ltb, le-ltb, cond-true, cond-false}
-use Rattle.std.specs.Int.{div_ceil}
 use Rattle.std.specs.Int.Bits.{xor_zero_r}
-use Rattle.aes_cmac.specs.Blocks.{xor_of, block_at, block_count}
+use Rattle.aes_cmac.specs.Blocks.{xor_of, block_at}
 use Rattle.aes_cmac.specs.Cmac.{doubled_number, last_block, chained, blocks_before_last, cmac_from}
 
 -- the block behind the next one is the next one behind a block
@@ -30,7 +27,7 @@ unfolding cmac_from
 cmac_more ciph x octets long =
     let n : ℕ = blocks_before_last (drop 16 octets) in
     ap₂ (λ (a b : List ℕ). ciph (xor_of a (last_block ciph b))) (sym (chained_more ciph x octets n))
-      (drop-drop (16 * n) 16 octets ∙ ap (λ m. drop m octets) (omega arith))
+    (drop-drop (16 * n) 16 octets ∙ ap (λ m. drop m octets) (omega arith))
     ∙ ap (λ m. ciph (xor_of (chained ciph x octets m) (last_block ciph (drop (16 * m) octets)))) (sym (one_before_more octets long))
 
 none_before : (octets : List ℕ) → length octets ≤ 16 → blocks_before_last octets ≡ 0
@@ -50,6 +47,7 @@ twice_number n within = ⊎_elim low high (cases_lt n (2 ^ 127))
         let none : n / 2 ^ 127 * 135 ≡ 0 = omega arith in
         ap₂ bit_xor shifted none
         ∙ xor_zero_r (2 * n) ∙ sym (cond-true (nat_lt n (2 ^ 127)) (2 * n) (bit_xor (2 * n % 2 ^ 128) 135) (lt-ltb n (2 ^ 127) below))
+
     high : 2 ^ 127 ≤ n → bit_xor (n * 2 % 2 ^ 128) (n / 2 ^ 127 * 135) ≡ doubled_number n
     high above =
         let shifted : n * 2 % 2 ^ 128 ≡ 2 * n % 2 ^ 128 = omega arith in

@@ -1,11 +1,11 @@
 -- The state behind some rounds, and the round keys, step by step.
-use Rattle.std.proofs.Common.{◌≡◌, ◌≢◌, refl, sym, ap, ◌∙◌, subst, ℕ, zero, suc, ◌+◌, ◌-◌, ◌<◌, ◌≤◌, ◌⊎◌, List, [], ◌∷◌, length, map, get_or, set, arith, add-one, inl, inr, ⊎_elim}
+use Rattle.std.proofs.Common.{◌≡◌, refl, sym, ap, ◌∙◌, ℕ, zero, suc, ◌+◌, ◌-◌, ◌<◌, ◌≤◌, List, [], length, map, get_or, set, arith, add-one, ⊎_elim}
 use Rattle.std.specs.List.{range_with_len}
 use Rattle.std.proofs.lemmas.List.{length-set, get_or-set_same, get_or-set_other}
 use Rattle.std.proofs.lemmas.List.FromFn.{fill_by_all}
 use Rattle.std.proofs.lemmas.Bool.{cases_eq}
 use Rattle.aes_cmac.specs.declared.schedule.TheConstants.{CONSTANTS}
-use Rattle.aes_cmac.specs.Aes.{columns, sub_bytes, shift_rows, mix_columns, add_round_key, round_constant, next_round_key, round_key, key_expansion, state_behind}
+use Rattle.aes_cmac.specs.Aes.{columns, sub_bytes, shift_rows, mix_columns, add_round_key, round_constant, next_round_key, round_key, key_expansion, state_behind, cipher, aes}
 use Rattle.aes_cmac.proofs.AllOctets.{at_each}
 
 pub state_behind_none : (keys : List (List (List ℕ))) (block : List ℕ) → state_behind keys block 0 ≡ add_round_key (columns block) (get_or keys 0 [])
@@ -69,3 +69,11 @@ keys_more key keys n next h are e = record { count = length-set keys (n + 1) nex
 pub keys_all : (key : List ℕ) (keys : List (List (List ℕ))) (n : ℕ) → 10 ≤ n → AreKeysTo key n keys → keys ≡ key_expansion key
 unfolding key_expansion
 keys_all key keys n h are = fill_by_all (round_key key) keys 11 [] are.count (λ k below. are.placed k (omega arith))
+
+pub length-cipher : (keys : List (List (List ℕ))) (block : List ℕ) → length (cipher keys block) ≡ 16
+unfolding cipher
+length-cipher keys block = refl
+
+pub length-aes : (key block : List ℕ) → length (aes key block) ≡ 16
+unfolding aes
+length-aes key block = length-cipher (key_expansion key) block

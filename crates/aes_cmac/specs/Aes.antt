@@ -96,5 +96,5 @@ unfoldable pub cipher : List (List (List ℕ)) → List ℕ → List ℕ
 cipher keys block = octets_of (add_round_key (shift_rows (sub_bytes (state_behind keys block 9))) (slice_index_or keys 10 []))
 
 -- AES-128 under a key (5)
-abbrev pub aes : List ℕ → List ℕ → List ℕ
+unfoldable pub aes : List ℕ → List ℕ → List ℕ
 aes key = cipher (key_expansion key)

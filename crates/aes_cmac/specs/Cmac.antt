@@ -1,5 +1,5 @@
 -- CMAC over a block cipher CIPH of 128-bit blocks (RFC 4493, whose sections the numbers name; there CIPH is AES-128).
-use Rattle.std.specs.Prelude.{ℕ, zero, suc, ◌-◌, ◌*◌, ◌%◌, ◌^◌, List, [], ◌∷◌, ◌++◌, length, drop, replicate, bit_xor, nat_lt, ◌==◌, if◌then◌else◌}
+use Rattle.std.specs.Prelude.{ℕ, zero, suc, ◌-◌, ◌*◌, ◌%◌, ◌^◌, List, ◌∷◌, ◌++◌, length, drop, replicate, bit_xor, nat_lt, ◌==◌, if◌then◌else◌}
 use Rattle.std.specs.Int.{w128, from_be_bytes, to_be_bytes}
 use Rattle.aes_cmac.specs.Blocks.{xor_of, block_at, block_count}
 

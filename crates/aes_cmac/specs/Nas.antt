@@ -17,13 +17,13 @@ abbrev pub bearer : ℕ
 bearer = 1
 
 -- COUNT in 32 bits, BEARER in 5, DIRECTION in 1, and 26 zero bits (TS 33.401 B.1.3, B.2.3)
-abbrev pub head : ℕ → Dir → List ℕ
+unfoldable pub head : ℕ → Dir → List ℕ
 head count dir = to_be_bytes w64 (count * 2 ^ 32 + bearer * 2 ^ 27 + direction_bit dir * 2 ^ 26)
 
 -- the first 32 bits of the CMAC of those 64 bits and the message (TS 33.401 B.2.3)
-abbrev pub nia2 : List ℕ → ℕ → Dir → List ℕ → List ℕ
+unfoldable pub nia2 : List ℕ → ℕ → Dir → List ℕ → List ℕ
 nia2 key count dir octets = take 4 (cmac (aes key) (head count dir ++ octets))
 
 -- the counter begins at those 64 bits and 64 zero bits (TS 33.401 B.1.3)
-abbrev pub nea2 : List ℕ → ℕ → Dir → List ℕ → List ℕ
+unfoldable pub nea2 : List ℕ → ℕ → Dir → List ℕ → List ℕ
 nea2 key count dir octets = ctr (aes key) (head count dir ++ replicate 8 0) octets

@@ -6,7 +6,8 @@ use crate::rounds::{last_round, round, sum};
 use crate::schedule::{RoundKeys, round_keys};
 use crate::state::{block_of_state, state_of_block};
 
-/// AES-128 of one block (FIPS 197).
+/// AES-128 of one block under a key (FIPS 197).
+#[tactic(auto, unfolding(crate::specs::Aes::aes))]
 pub fn encrypt_block(key: &[u8; 16], block: &[u8; 16]) -> [u8; 16]
     ensures { result ≡ aes key.now block.now }
 {
@@ -15,7 +16,7 @@ pub fn encrypt_block(key: &[u8; 16], block: &[u8; 16]) -> [u8; 16]
 
 /// The block enciphered under round keys.
 #[tactic(auto, unfolding(crate::specs::Aes::cipher))]
-pub(crate) fn enciphered(keys: &RoundKeys, block: &[u8; 16]) -> [u8; 16]
+pub fn enciphered(keys: &RoundKeys, block: &[u8; 16]) -> [u8; 16]
     ensures { result ≡ cipher keys.now block.now }
 {
     let mut state = sum(&state_of_block(block), &keys[0]);

@@ -4,45 +4,43 @@ ghost use Rattle.aes_cmac.specs.Aes.{aes, cipher};
 ghost use Rattle.aes_cmac.specs.Blocks.{xor_of};
 ghost use Rattle.aes_cmac.specs.Cmac.{cmac, cmac_from, doubled_block, last_block, padded};
 
-use crate::blocks::{Block, add_mask};
+use crate::blocks::{Block, ZERO_BLOCK, add_mask};
 use crate::cipher::enciphered;
 use crate::schedule::{RoundKeys, round_keys};
-
-// const_Zero (RFC 4493 section 2.2).
-const ZERO_BLOCK: Block = [0; 16];
 
 // const_Rb (RFC 4493 section 2.2).
 const REDUCTION: u128 = 0x87;
 
-/// AES-CMAC of the octets (RFC 4493).
+/// AES-CMAC of the octets, of any number (RFC 4493).
+#[tactic(auto, unfolding(crate::specs::Aes::aes))]
 pub fn cmac(key: &[u8; 16], octets: &[u8]) -> [u8; 16]
     ensures { result ≡ cmac (aes key.now) octets.now }
 {
     mac_from(&round_keys(key), &ZERO_BLOCK, octets)
 }
 
-/// The CMAC of the octets behind blocks that left this sum.
-pub(crate) fn mac_from(keys: &RoundKeys, before: &Block, octets: &[u8]) -> Block
+/// The CMAC of a message, of which the octets are left, and whose blocks before them led to this chaining value.
+pub fn mac_from(keys: &RoundKeys, before: &Block, octets: &[u8]) -> Block
     ensures { result ≡ cmac_from (cipher keys.now) before.now octets.now }
 {
-    let mut chained = *before;
+    let mut chain = *before;
     let mut left = octets;
     while left.len() > 16 {
         let (block, behind) = left.split_at(16);
-        chained = next_sum(keys, &chained, block);
+        chain = next_chain(keys, &chain, block);
         left = behind;
     }
-    next_sum(keys, &chained, &last_of(keys, left))
+    next_chain(keys, &chain, &last_of(keys, left))
 }
 
-/// The sum that a block leaves.
-pub(crate) fn next_sum(keys: &RoundKeys, before: &Block, block: &[u8]) -> Block
+/// The chaining value behind one block more.
+pub fn next_chain(keys: &RoundKeys, before: &Block, block: &[u8]) -> Block
     requires { length block.now ≡ 16 }
     ensures { result ≡ cipher keys.now (xor_of before.now block.now) }
 {
-    let mut sum = *before;
-    add_mask(&mut sum, block);
-    enciphered(keys, &sum)
+    let mut added = *before;
+    add_mask(&mut added, block);
+    enciphered(keys, &added)
 }
 
 // The last block: a whole one with the first subkey added, a cut one filled up, with the second.

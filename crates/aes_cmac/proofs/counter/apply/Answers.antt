@@ -1,6 +1,7 @@
-use Rattle.std.proofs.Common.{◌∙◌, arith, ap, length}
+use Rattle.std.proofs.Common.{arith}
 use Rattle.aes_cmac.specs.Aes.{cipher}
-use Rattle.aes_cmac.proofs.CtrLemmas.{length-cipher, done_none, done_more, done_all}
+use Rattle.aes_cmac.proofs.RoundLemmas.{length-cipher}
+use Rattle.aes_cmac.proofs.CtrLemmas.{done_none, done_more, done_all}
 use Rattle.aes_cmac.proofs.counter.apply.Goals as goal
 
 pub loop-n-init : goal.loop-n-init
@@ -11,7 +12,9 @@ loop-n-init c =
 pub loop-n-preserved : goal.loop-n-preserved
 loop-n-preserved c =
     done_more (cipher c.args.keys.now) c.args.first.now c.args.octets.now c.loop-n.octets c.loop-n.n c.loop-n.counter _ c.to_be_bytes.result _
-    c.loop-n.invariant (omega arith) (omega arith) c.to_be_bytes.ensures (length-cipher c.args.keys.now c.to_be_bytes.result) (cc)
+    (length-cipher c.args.keys.now) c.loop-n.invariant (omega arith) (omega arith) c.to_be_bytes.ensures (cc)
 
 pub returns : goal.returns
-returns c = done_all (cipher c.args.keys.now) c.args.first.now c.args.octets.now c.loop-n.octets c.loop-n.n c.loop-n.counter (omega arith) c.loop-n.invariant
+returns c =
+    done_all (cipher c.args.keys.now) c.args.first.now c.args.octets.now c.loop-n.octets c.loop-n.n c.loop-n.counter (omega arith)
+    c.loop-n.invariant
