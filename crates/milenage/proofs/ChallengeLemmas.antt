@@ -1,9 +1,9 @@
 -- A challenge at both ends.
 use Rattle.std.proofs.Common.{◌≡◌, refl, ap, subst, ◌∙◌, ℕ, ◌<◌, ◌^◌, Bool, true, false, not, List, ◌++◌, length, Some, if◌then◌else◌, arith}
 use Rattle.std.proofs.lemmas.List.{length-append}
-use Rattle.aes_cmac.proofs.BlockLemmas.{length-xor_of}
-use Rattle.aes_cmac.proofs.CtrLemmas.{length-cipher}
-use Rattle.aes_cmac.specs.Aes.{aes, key_expansion}
+use Rattle.aes_cmac.proofs.BlockLemmas.{length-xor_of, xor_of-xor_of}
+use Rattle.aes_cmac.proofs.RoundLemmas.{length-aes}
+use Rattle.aes_cmac.specs.Aes.{aes}
 use Rattle.milenage.specs.Octets.{◌⊕◌, part}
 use Rattle.milenage.specs.Milenage.{f1, f1_star, f5, f5_star, out, out1, out2, out5, temp}
 use Rattle.milenage.specs.Autn.{autn, sqn_number, sqn_octets, vector}
@@ -11,11 +11,11 @@ use Rattle.milenage.specs.Checking.{auts, checked, field_in, fresh_answer, is_fo
 use Rattle.milenage.specs.Laws.{AutsOpens, VectorIsTaken}
 use Rattle.milenage.specs.declared.autn.AutnAnswer.{AutnAnswer}
 use Rattle.milenage.specs.declared.autn.AutnAnswer.TheVariants.{Accepted, MacFailure, NotFiveG, SynchFailure}
-use Rattle.milenage.proofs.OctetLemmas.{bytes_eq-self, length-part, length-sqn_octets, part_first, part_front, part_last, part_middle, sqn_number-sqn_octets, xor_back}
+use Rattle.milenage.proofs.OctetLemmas.{bytes_eq-self, length-part, length-sqn_octets, part_first, part_front, part_last, part_middle, sqn_number-sqn_octets}
 
 -- a block under E, with OPc over it, is a block
 length-covered : (k opc block : List ℕ) → length opc ≡ 16 → length (aes k block ⊕ opc) ≡ 16
-length-covered k opc block h = omega (arith, h, length-xor_of (aes k block) opc, length-cipher (key_expansion k) block)
+length-covered k opc block h = omega (arith, h, length-xor_of (aes k block) opc, length-aes k block)
 
 length-out1 : (k opc rand sqn field : List ℕ) → length opc ≡ 16 → length (out1 k opc rand sqn field) ≡ 16
 length-out1 k opc rand sqn field h = length-covered k opc _ h
@@ -68,7 +68,7 @@ vector_is_taken k opc rand field n sqn_ms opc_16 field_2 small =
     let hidden_6 : length hidden ≡ 6 = omega (arith, length-xor_of sqn ak, sqn_6, ak_6) in
     let front_8 : length (hidden ++ field) ≡ 8 = omega (arith, length-append hidden field) in
     answer_by_parts k opc rand (autn k opc rand sqn field) sqn field n sqn_ms
-    (ap (λ (x : List ℕ). x ⊕ ak) (part_front 6 hidden field mac hidden_6) ∙ xor_back sqn ak (omega (arith, sqn_6, ak_6)))
+    (ap (λ (x : List ℕ). x ⊕ ak) (part_front 6 hidden field mac hidden_6) ∙ xor_of-xor_of sqn ak (omega (arith, sqn_6, ak_6)))
     (part_middle 6 2 hidden field mac hidden_6 field_2)
     (part_last 8 8 (hidden ++ field) mac front_8 (length-f1 k opc rand sqn field opc_16))
     (sqn_number-sqn_octets n small)
@@ -93,7 +93,7 @@ own_opens k opc rand sqn_ms opc_16 small =
     let ak_6 = length-f5_star k opc rand opc_16 in
     let hidden_6 : length hidden ≡ 6 = omega (arith, length-xor_of sqn ak, sqn_6, ak_6) in
     opened_by_parts k opc rand (hidden ++ mac) sqn sqn_ms
-    (ap (λ (x : List ℕ). x ⊕ ak) (part_first 6 hidden mac hidden_6) ∙ xor_back sqn ak (omega (arith, sqn_6, ak_6)))
+    (ap (λ (x : List ℕ). x ⊕ ak) (part_first 6 hidden mac hidden_6) ∙ xor_of-xor_of sqn ak (omega (arith, sqn_6, ak_6)))
     (part_last 6 8 hidden mac hidden_6 (length-f1_star k opc rand sqn zero_field opc_16))
     (sqn_number-sqn_octets sqn_ms small)
 

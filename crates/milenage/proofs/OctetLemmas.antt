@@ -1,17 +1,11 @@
--- Strings of octets: their parts, and what an exclusive or gives twice.
-use Rattle.std.proofs.Common.{◌≡◌, refl, ap, ◌∙◌, ℕ, ◌+◌, ◌<◌, ◌≤◌, ◌^◌, List, [], ◌∷◌, ◌++◌, length, take, drop, true, arith}
-use lib.Bits.{xor_assoc, xor_self, xor_zero_r}
+-- Strings of octets, their parts and SQN.
+use Rattle.std.proofs.Common.{◌≡◌, refl, ap, ◌∙◌, ℕ, ◌+◌, ◌<◌, ◌≤◌, ◌^◌, List, [], ◌++◌, length, take, drop, true, arith}
 use Rattle.std.specs.Str.{bytes_eq}
 use Rattle.std.proofs.lemmas.Slice.Eq.{bytes_eq-Decides}
 use Rattle.std.proofs.lemmas.List.{append_assoc, length-take, length-drop, take_at, drop_at, take_all}
 use Rattle.byteorder.specs.Numbers.{big_number-reads_back}
-use Rattle.milenage.specs.Octets.{◌⊕◌, part}
+use Rattle.milenage.specs.Octets.{part}
 use Rattle.milenage.specs.Autn.{sqn_number, sqn_octets}
-
-pub xor_back : (x y : List ℕ) → length x ≤ length y → (x ⊕ y) ⊕ y ≡ x
-xor_back [] y h = refl
-xor_back (a ∷ x) [] h = absurd (omega arith)
-xor_back (a ∷ x) (b ∷ y) h = rw (xor_back x y (omega arith), xor_assoc, xor_self, xor_zero_r) refl
 
 pub bytes_eq-self : (x : List ℕ) → bytes_eq x x ≡ true
 bytes_eq-self x = (bytes_eq-Decides x x).1 refl
