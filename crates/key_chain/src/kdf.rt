@@ -5,7 +5,8 @@ ghost use Rattle.key_chain.specs.Mac.{HoldsText};
 
 use crate::hmac::Mac;
 
-/// The key that the key and one parameter give, where `fc` tells the use that it is derived for.
+/// HMAC-SHA-256 of the key over FC, P0 and L0, the length of P0 in two octets (TS 33.220 Annex B.2). The octet `fc` tells
+/// what the result is for; a parameter has at most 65,535 octets.
 #[tactic(auto, unfolding(crate::specs::Kdf::kdf))]
 pub fn kdf1(key: &[u8], fc: u8, p0: &[u8]) -> [u8; 32]
     requires { length p0.now ≤ 65535 }
@@ -17,7 +18,7 @@ pub fn kdf1(key: &[u8], fc: u8, p0: &[u8]) -> [u8; 32]
     mac.finish()
 }
 
-/// The key that the key and two parameters give.
+/// HMAC-SHA-256 of the key over FC, P0, L0, P1, L1 (TS 33.220 Annex B.2), for parameters of at most 65,535 octets.
 #[tactic(auto, unfolding(crate::specs::Kdf::kdf))]
 pub fn kdf2(key: &[u8], fc: u8, p0: &[u8], p1: &[u8]) -> [u8; 32]
     requires p0 { length p0.now ≤ 65535 }
@@ -31,7 +32,7 @@ pub fn kdf2(key: &[u8], fc: u8, p0: &[u8], p1: &[u8]) -> [u8; 32]
     mac.finish()
 }
 
-/// The key that the key and three parameters give.
+/// HMAC-SHA-256 of the key over FC, P0, L0, P1, L1, P2, L2 (TS 33.220 Annex B.2), for parameters of at most 65,535 octets.
 #[tactic(auto, unfolding(crate::specs::Kdf::kdf))]
 pub fn kdf3(key: &[u8], fc: u8, p0: &[u8], p1: &[u8], p2: &[u8]) -> [u8; 32]
     requires p0 { length p0.now ≤ 65535 }

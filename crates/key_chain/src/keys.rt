@@ -16,7 +16,8 @@ const FOR_KSEAF: u8 = 0x6c;
 
 const FOR_KAMF: u8 = 0x6d;
 
-/// RES* of the answer `res` to the challenge `rand` (TS 33.501 Annex A.4).
+/// RES* (or XRES*) of the answer `res` to the challenge `rand`: the last 16 octets of what CK and IK give (TS 33.501
+/// Annex A.4).
 #[tactic(auto, unfolding(crate::specs::Keys::res_star))]
 pub fn res_star(
     ck: &[u8; 16],
@@ -30,7 +31,7 @@ pub fn res_star(
     last_half(&kdf3(&joined(ck, ik), FOR_RES_STAR, &snn(plmn), rand, res))
 }
 
-/// The key KAUSF of the home network, where `hidden` is SQN XOR AK (TS 33.501 Annex A.2).
+/// The key KAUSF of the home network, where `hidden` is SQN XOR AK, the first 6 octets of AUTN (TS 33.501 Annex A.2).
 #[tactic(auto, unfolding(crate::specs::Keys::kausf))]
 pub fn kausf(ck: &[u8; 16], ik: &[u8; 16], plmn: &Plmn, hidden: &[u8; 6]) -> [u8; 32]
     ensures { result ≡ kausf ck.now ik.now plmn.now hidden.now }
@@ -46,7 +47,7 @@ pub fn kseaf(kausf: &[u8; 32], plmn: &Plmn) -> [u8; 32]
     kdf1(kausf, FOR_KSEAF, &snn(plmn))
 }
 
-/// The key KAMF, for this subscriber and these ABBA octets (TS 33.501 Annex A.7.0).
+/// The key KAMF, for this subscriber and for ABBA, which has at most 65,535 octets (TS 33.501 Annex A.7.0).
 #[tactic(auto, unfolding(crate::specs::Keys::kamf))]
 pub fn kamf(kseaf: &[u8; 32], supi: &Supi, abba: &[u8]) -> [u8; 32]
     requires { length abba.now ≤ 65535 }

@@ -12,6 +12,7 @@ pub enum AutnAnswer {
     Accepted {
         /// The sequence number of the challenge, below 2^48.
         sqn: u64,
+        /// The answer to the challenge, and the cipher, integrity and anonymity keys.
         res: [u8; 8],
         ck: [u8; 16],
         ik: [u8; 16],
@@ -19,7 +20,7 @@ pub enum AutnAnswer {
     },
     /// The MAC isn't the one of the subscriber's keys.
     MacFailure,
-    /// The first bit of the AMF field is 0, so the challenge isn't one for 5G (TS 33.501 clause 6.1.3.2).
+    /// The first bit of the AMF field, its separation bit, is 0: the challenge isn't one for 5G (TS 33.501 clause 6.1.3.2).
     NotFiveG,
     /// The sequence number isn't greater than the handset's own, which `auts` tells the home network.
     SynchFailure {
@@ -27,8 +28,8 @@ pub enum AutnAnswer {
     },
 }
 
-/// The answer of a handset whose greatest accepted sequence number is `sqn_ms`. The MAC is checked first, then the AMF field,
-/// then the sequence number.
+/// The answer of a handset whose greatest accepted sequence number is `sqn_ms`, below 2^48. The MAC is checked first, then the
+/// AMF field, then the sequence number.
 #[tactic(auto, unfolding(crate::specs::Checking::checked))]
 pub fn check_autn(
     k: &[u8; 16],

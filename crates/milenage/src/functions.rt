@@ -29,7 +29,7 @@ const C4: u8 = 4;
 
 const C5: u8 = 8;
 
-/// OPc of a subscriber's K and the operator's OP.
+/// OPc of a subscriber's K and the operator's OP: OP XOR what AES makes of it under K (TS 35.206 clause 4.1).
 #[tactic(auto, unfolding(crate::specs::Milenage::opc_of))]
 pub fn opc_of(k: &[u8; 16], op: &[u8; 16]) -> [u8; 16]
     ensures { result ≡ opc_of k.now op.now }
@@ -37,7 +37,7 @@ pub fn opc_of(k: &[u8; 16], op: &[u8; 16]) -> [u8; 16]
     xor(op, &encrypt_block(k, op))
 }
 
-/// MAC-A of a challenge, of the sequence number and of the AMF field.
+/// MAC-A of a challenge, of SQN and of the AMF field, by which a handset knows its home network.
 #[tactic(auto, unfolding(crate::specs::Milenage::f1))]
 pub fn f1(k: &[u8; 16], opc: &[u8; 16], rand: &[u8; 16], sqn: &[u8; 6], field: &[u8; 2]) -> [u8; 8]
     ensures { result ≡ f1 k.now opc.now rand.now sqn.now field.now }
@@ -45,7 +45,7 @@ pub fn f1(k: &[u8; 16], opc: &[u8; 16], rand: &[u8; 16], sqn: &[u8; 6], field: &
     part(0, &out1(k, opc, rand, sqn, field))
 }
 
-/// MAC-S, by which a handset names its sequence number for resynchronisation.
+/// MAC-S of the same, by which a home network knows the handset that tells its sequence number.
 #[tactic(auto, unfolding(crate::specs::Milenage::f1_star))]
 pub fn f1_star(
     k: &[u8; 16],
@@ -59,7 +59,7 @@ pub fn f1_star(
     part(8, &out1(k, opc, rand, sqn, field))
 }
 
-/// RES, CK, IK and AK of a challenge.
+/// RES, CK, IK and AK of a challenge: f2, f3, f4 and f5.
 pub fn f2345(k: &[u8; 16], opc: &[u8; 16], rand: &[u8; 16]) -> F2345
     ensures { result ≡ f2345 k.now opc.now rand.now }
 {
