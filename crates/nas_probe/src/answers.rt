@@ -1,7 +1,7 @@
 //! Lines and their answers.
 
-use crate::aes_calls;
 use crate::words::Refusal;
+use crate::{aes_calls, key_calls, milenage_calls};
 use std::alloc::{AllocError, Global};
 
 /// The answer to a line.
@@ -25,5 +25,13 @@ fn called(alloc: Global, line: &[u8]) -> Result<String, Refusal> {
     let Ok(words) = text.split(' ').collect::<Vec<&str>>(alloc) else {
         return Err(Refusal::Memory);
     };
-    aes_calls::answer(alloc, words.as_slice())
+    let words = words.as_slice();
+    match aes_calls::answer(alloc, words) {
+        Err(Refusal::Unreadable) => (),
+        answer => return answer,
+    }
+    match key_calls::answer(alloc, words) {
+        Err(Refusal::Unreadable) => milenage_calls::answer(alloc, words),
+        answer => answer,
+    }
 }

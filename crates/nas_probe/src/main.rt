@@ -7,6 +7,8 @@
 
 mod aes_calls;
 mod answers;
+mod key_calls;
+mod milenage_calls;
 mod words;
 
 use std::io::{self, BufRead, BufReader, BufWriter, Write};
