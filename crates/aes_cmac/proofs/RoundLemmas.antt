@@ -5,15 +5,15 @@ use Rattle.std.proofs.lemmas.List.{length-set, get_or-set_same, get_or-set_other
 use Rattle.std.proofs.lemmas.List.FromFn.{fill_by_all}
 use Rattle.std.proofs.lemmas.Bool.{cases_eq}
 use Rattle.aes_cmac.specs.declared.schedule.TheConstants.{CONSTANTS}
-use Rattle.aes_cmac.specs.Aes.{columns, sub_bytes, shift_rows, mix_columns, add_round_key, round_constant, next_round_key, round_key, key_expansion, state_behind, cipher, aes}
+use Rattle.aes_cmac.specs.Aes.{State, columns, sub_bytes, shift_rows, mix_columns, add_round_key, round_constant, next_round_key, round_key, key_expansion, state_behind, cipher, aes}
 use Rattle.aes_cmac.proofs.AllOctets.{at_each}
 
-pub state_behind_none : (keys : List (List (List ℕ))) (block : List ℕ) → state_behind keys block 0 ≡ add_round_key (columns block) (get_or keys 0 [])
+pub state_behind_none : (keys : List State) (block : List ℕ) → state_behind keys block 0 ≡ add_round_key (columns block) (get_or keys 0 [])
 unfolding state_behind
 state_behind_none keys block = refl
 
 -- round n leads from the state behind the n - 1 rounds before it
-pub state_behind_more : (keys : List (List (List ℕ))) (block : List ℕ) (n : ℕ) → 1 ≤ n
+pub state_behind_more : (keys : List State) (block : List ℕ) (n : ℕ) → 1 ≤ n
     → state_behind keys block (n + 1 - 1) ≡ add_round_key (mix_columns (shift_rows (sub_bytes (state_behind keys block (n - 1))))) (get_or keys n [])
 unfolding state_behind
 state_behind_more keys block zero h = absurd (omega arith)
@@ -38,18 +38,18 @@ unfolding round_key
 round_key_more key n h = rw (add-one, constant_at n h) refl
 
 -- eleven states, of which those up to n are the round keys
-pub record AreKeysTo (key : List ℕ) (n : ℕ) (keys : List (List (List ℕ))) : Type 0 where
+pub record AreKeysTo (key : List ℕ) (n : ℕ) (keys : List State) : Type 0 where
   pub count : length keys ≡ 11
   pub placed : (k : ℕ) → k ≤ n → get_or keys k [] ≡ round_key key k
 
-pub keys_at_start : (key : List ℕ) (keys : List (List (List ℕ))) → length keys ≡ 11 → get_or keys 0 [] ≡ columns key → AreKeysTo key 0 keys
+pub keys_at_start : (key : List ℕ) (keys : List State) → length keys ≡ 11 → get_or keys 0 [] ≡ columns key → AreKeysTo key 0 keys
 keys_at_start key keys count e = record { count = count; placed = placed }
   where
     placed : (k : ℕ) → k ≤ 0 → get_or keys k [] ≡ round_key key k
     placed zero h = e ∙ sym (round_key_none key)
     placed (suc k) h = absurd (omega arith)
 
-pub keys_more : (key : List ℕ) (keys : List (List (List ℕ))) (n : ℕ) (next : List (List ℕ)) → n < 10 → AreKeysTo key n keys
+pub keys_more : (key : List ℕ) (keys : List State) (n : ℕ) (next : State) → n < 10 → AreKeysTo key n keys
     → next ≡ next_round_key (get_or CONSTANTS n 0) (get_or keys n []) → AreKeysTo key (n + 1) (set keys (n + 1) next)
 keys_more key keys n next h are e = record { count = length-set keys (n + 1) next ∙ are.count; placed = placed }
   where
@@ -66,11 +66,11 @@ keys_more key keys n next h are e = record { count = length-set keys (n + 1) nex
         (λ (other : k ≡ n + 1 → ⊥). get_or-set_other keys (n + 1) k next [] other ∙ are.placed k (omega arith))
         (cases_eq k (n + 1))
 
-pub keys_all : (key : List ℕ) (keys : List (List (List ℕ))) (n : ℕ) → 10 ≤ n → AreKeysTo key n keys → keys ≡ key_expansion key
+pub keys_all : (key : List ℕ) (keys : List State) (n : ℕ) → 10 ≤ n → AreKeysTo key n keys → keys ≡ key_expansion key
 unfolding key_expansion
 keys_all key keys n h are = fill_by_all (round_key key) keys 11 [] are.count (λ k below. are.placed k (omega arith))
 
-pub length-cipher : (keys : List (List (List ℕ))) (block : List ℕ) → length (cipher keys block) ≡ 16
+pub length-cipher : (keys : List State) (block : List ℕ) → length (cipher keys block) ≡ 16
 unfolding cipher
 length-cipher keys block = refl
 

@@ -30,16 +30,16 @@ unfoldable pub last_block : (List ℕ → List ℕ) → List ℕ → List ℕ
 last_block ciph octets =
     if length octets == 16 then xor_of octets (first_subkey ciph) else xor_of (padded octets) (second_subkey ciph)
 
--- X behind the first n blocks, where it is x before them (2.4, step 6)
+-- X behind the first n blocks, where it is x before them (2.4, steps 5 and 6)
 unfoldable pub chained : (List ℕ → List ℕ) → List ℕ → List ℕ → ℕ → List ℕ
 chained ciph x octets zero = x
 chained ciph x octets (suc n) = ciph (xor_of (chained ciph x octets n) (block_at octets n))
 
--- how many blocks stand before the last one; a string of no octets has that one too (2.4, step 2)
+-- how many blocks stand before the last one; a string of no octets has that one too (2.4, steps 2 and 3)
 abbrev pub blocks_before_last : List ℕ → ℕ
 blocks_before_last octets = block_count octets - 1
 
--- T, where X is x before the first block (2.4, steps 6 and 7)
+-- T, where X is x before the first block; and the MAC of a whole message, where it is zero (2.4, steps 5 and 6)
 unfoldable pub cmac_from : (List ℕ → List ℕ) → List ℕ → List ℕ → List ℕ
 cmac_from ciph x octets =
     let n = blocks_before_last octets in
