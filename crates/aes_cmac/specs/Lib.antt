@@ -1,0 +1,6 @@
+pub mod Aes
+pub mod Blocks
+pub mod Cmac
+pub mod Ctr
+pub mod Field
+pub mod Nas

@@ -1,0 +1,5 @@
+pub mod Hmac
+pub mod Kdf
+pub mod Keys
+pub mod Mac
+pub mod ServingNetwork

@@ -1,0 +1,21 @@
+//! MILENAGE, the functions that a subscriber's K and OPc are used by (TS 35.206), and the authentication vectors and
+//! answers that are made with them (TS 33.102 clause 6.3).
+//!
+//! No call takes memory. None of them runs in a time that is independent of its arguments. The types that hold keys have no
+//! `Debug`, so that none is printed by oversight.
+#![tactic(auto)]
+
+mod autn;
+mod functions;
+mod laws;
+mod octets;
+mod outputs;
+#[cfg(test)]
+mod tests;
+mod vector;
+
+pub use crate::autn::{AutnAnswer, check_autn};
+pub use crate::functions::{f1, f1_star, f5_star, f2345, opc_of};
+pub use crate::laws::{auts_opens, vector_is_taken};
+pub use crate::outputs::F2345;
+pub use crate::vector::{Vector, make_vector};
