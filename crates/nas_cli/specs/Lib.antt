@@ -2,3 +2,4 @@ pub mod Files
 pub mod Program
 pub mod Shelf
 pub mod Status
+pub mod Vectors

@@ -14,6 +14,7 @@ use Rattle.nas_script.specs.declared.key.Key.{Key}
 use Rattle.nas_script.specs.declared.script.ScriptRefusal.{ScriptRefusal}
 use Rattle.nas_script.specs.declared.script.ScriptRefusal.TheVariants as wrong
 use Rattle.nas_cli.specs.Files.{Content}
+use Rattle.nas_cli.specs.Vectors.{vectors_text}
 use Rattle.nas_cli.specs.declared.plan.Run.{Run}
 use Rattle.nas_cli.specs.declared.plan.Stop.{Stop}
 use Rattle.nas_cli.specs.declared.plan.Stop.TheVariants.{File, TooLong, Config, Script, Memory}
@@ -25,6 +26,14 @@ run_word = codes "run"
 abbrev pub run_form : List (List ℕ) → Option (List ℕ × List ℕ)
 run_form (form ∷ config ∷ script ∷ []) = if pointwise nat_eq form run_word then Some (config, script) else None
 run_form _ = None
+
+-- The form vectors.
+unfoldable pub vectors_word : List ℕ
+vectors_word = codes "vectors"
+
+abbrev pub is_vectors : List (List ℕ) → Bool
+is_vectors (form ∷ []) = pointwise nat_eq form vectors_word
+is_vectors _ = false
 
 -- what a script asks for beside a configuration
 abbrev pub scripted : WorldValues → Result (List Line) ScriptRefusal → Result (WorldValues × List Line) Stop
@@ -70,6 +79,9 @@ pub record Answer : Type 0 where
 
 abbrev pub words_answer : Answer
 words_answer = record { status = 2; text = words_line }
+
+abbrev pub vectors_answer : Answer
+vectors_answer = record { status = 0; text = vectors_text }
 
 abbrev pub file_answer : Answer
 file_answer = record { status = 5; text = file_line }

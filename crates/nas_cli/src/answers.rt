@@ -1,10 +1,11 @@
 //! What the program writes, and the statuses that go with it.
 ghost use Rattle.std.specs.Prelude.{◌≡◌, Err, Ok, IfOk, string_bytes};
-ghost use Rattle.nas_cli.specs.Program.{Says, answer_to, config_line, file_answer, script_line, too_long_line, words_answer};
+ghost use Rattle.nas_cli.specs.Program.{Says, answer_to, config_line, file_answer, script_line, too_long_line, vectors_answer, words_answer};
 ghost use Rattle.nas_cli.specs.declared.plan.Stop.TheVariants as stops;
 
 use crate::plan::Run;
 use crate::status::ExitStatus;
+use crate::vectors::vectors_of;
 use nas_base::{Sink, WriteRefusal};
 use nas_script::{Key, TranscriptFault, transcript};
 use std::alloc::{AllocError, Global};
@@ -26,6 +27,17 @@ pub fn tell_words<O: Sink>(alloc: Global, out: &mut O) -> ExitStatus
     ensures { Says (O.written out.old) (O.written out.new) (O.fault_count out.old) (O.fault_count out.new) words_answer result }
 {
     tell(alloc, out, b"nas: words\n", ExitStatus(2))
+}
+
+/// The published vectors.
+#[tactic(auto, using(crate::proofs::SayLaws::says_starved))]
+pub fn tell_vectors<O: Sink>(alloc: Global, out: &mut O) -> ExitStatus
+    ensures { Says (O.written out.old) (O.written out.new) (O.fault_count out.old) (O.fault_count out.new) vectors_answer result }
+{
+    match vectors_of(alloc) {
+        Ok(text) => tell(alloc, out, text.as_slice(), ExitStatus(0)),
+        Err(_) => ExitStatus(8),
+    }
 }
 
 /// A file was refused.

@@ -1,9 +1,11 @@
 //! The program.
-ghost use Rattle.std.specs.Prelude.{◌≡◌, ◌≢◌, ◌∷◌, [], None, IfSome, IfNone, option_map};
+ghost use Rattle.std.specs.Prelude.{◌≡◌, ◌≢◌, ◌∷◌, [], false, true, None, IfSome, IfNone, option_map};
 ghost use Rattle.nas_base.specs.Outside.{Rose};
-ghost use Rattle.nas_cli.specs.Program.{AsksFirst, IsOfContent, IsRefused, Says, SaysRun, asks, names_in, run_form, words_answer};
+ghost use Rattle.nas_cli.specs.Program.{AsksFirst, IsOfContent, IsRefused, Says, SaysRun, asks, names_in, run_form, vectors_answer, words_answer, is_vectors};
 
-use crate::answers::{tell_config, tell_file, tell_run, tell_script, tell_too_long, tell_words};
+use crate::answers::{
+    tell_config, tell_file, tell_run, tell_script, tell_too_long, tell_vectors, tell_words,
+};
 use crate::files::Files;
 use crate::plan::{Stop, read_run};
 use crate::shelf::MemoryFiles;
@@ -14,15 +16,17 @@ use std::alloc::Global;
 
 /// All that the program does, over the words of its command line, the files and the output that it is handed.
 ///
-/// `run CONFIG SCRIPT` writes the transcript of the run that the two files ask for, and ends with 0. Words of no other form
-/// are known: they give 2. A fault of the files gives the line that names it, and its status.
+/// `run CONFIG SCRIPT` writes the transcript of the run that the two files ask for, and `vectors` the published vectors of
+/// the ciphers and key derivations; both end with 0. Words of no other form are known: they give 2. A fault of the files
+/// gives the line that names it, and its status.
 pub fn nas<F: Files, O: Sink>(
     alloc: Global,
     words: &Words,
     files: &mut F,
     out: &mut O,
 ) -> ExitStatus
-    ensures words { IfNone (run_form words.now) (Says (O.written out.old) (O.written out.new) (O.fault_count out.old) (O.fault_count out.new) words_answer result) }
+    ensures words { IfNone (run_form words.now) (is_vectors words.now ≡ false → Says (O.written out.old) (O.written out.new) (O.fault_count out.old) (O.fault_count out.new) words_answer result) }
+    ensures vectors { is_vectors words.now ≡ true → Says (O.written out.old) (O.written out.new) (O.fault_count out.old) (O.fault_count out.new) vectors_answer result }
     ensures run { IfSome (run_form words.now) (λ names.
         SaysRun (F.content files.old) names (F.fault_count files.old) (F.fault_count files.new)
         (λ answer. Says (O.written out.old) (O.written out.new) (O.fault_count out.old) (O.fault_count out.new) answer result)) }
@@ -39,11 +43,11 @@ pub fn nas<F: Files, O: Sink>(
     ensures asked_both { IsOfContent result → F.asked files.new ≡ asks (names_in (run_form words.now)) (F.asked files.old) }
 
     // Words of a form never give 2.
-    ensures form { result ≡ 2 → run_form words.now ≡ None }
+    ensures form { result ≡ 2 → (run_form words.now ≡ None) × (is_vectors words.now ≡ false) }
 {
     match run_names(words) {
         Some((config, script)) => run(alloc, config, script, files, out),
-        None => tell_words(alloc, out),
+        None => vectors_or_words(alloc, words, out),
     }
 }
 
@@ -58,6 +62,32 @@ pub fn nas_in_memory(
     ensures no_output_fault { result ≢ 6 }
 {
     nas(alloc, words, files, out)
+}
+
+// Writes the vectors where the words ask for them; else they are of no form.
+fn vectors_or_words<O: Sink>(alloc: Global, words: &Words, out: &mut O) -> ExitStatus
+    ensures words { is_vectors words.now ≡ false → Says (O.written out.old) (O.written out.new) (O.fault_count out.old) (O.fault_count out.new) words_answer result }
+    ensures vectors { is_vectors words.now ≡ true → Says (O.written out.old) (O.written out.new) (O.fault_count out.old) (O.fault_count out.new) vectors_answer result }
+    ensures file_fault { result ≢ 5 }
+    ensures output_fault { result ≡ 6 → Rose (O.fault_count out.old) (O.fault_count out.new) }
+    ensures form { result ≡ 2 → is_vectors words.now ≡ false }
+{
+    if asks_for_vectors(words) {
+        tell_vectors(alloc, out)
+    } else {
+        tell_words(alloc, out)
+    }
+}
+
+// The words are `vectors`.
+#[tactic(auto, unfolding(crate::specs::Program::vectors_word))]
+fn asks_for_vectors(words: &Words) -> bool
+    ensures { result ≡ is_vectors words.now }
+{
+    match words.items.as_slice() {
+        [form] => form.as_str() == "vectors",
+        _ => false,
+    }
 }
 
 // The names of both files, where the words are `run CONFIG SCRIPT`.
