@@ -1,11 +1,10 @@
 -- How long messages are.
-use Rattle.std.proofs.Common.{◌≡◌, ℕ, zero, suc, ◌+◌, ◌≤◌, List, [], ◌∷◌, ◌++◌, length, take, Option, Some, None, arith, length-append, length-take}
+use Rattle.std.proofs.Common.{ℕ, ◌+◌, ◌≤◌, List, [], ◌∷◌, length, Some, arith, length-take}
 use Rattle.std.proofs.lemmas.Grind.{common_steps}
-use Rattle.nas_base.specs.Writing.{optional_tlv}
 use Rattle.mm_messages.specs.Identity.{identity_octets}
 use Rattle.mm_messages.specs.Packed.{packed}
 use Rattle.mm_messages.specs.Registration.{registration_request}
-use Rattle.mm_messages.specs.Suci.{SuciParts, routing_octets, suci_octets}
+use Rattle.mm_messages.specs.Suci.{SuciParts, suci_octets}
 use Rattle.mm_messages.specs.declared.identity.Identity.{Identity}
 use Rattle.mm_messages.specs.declared.registration.RegistrationType.{RegistrationType}
 

@@ -1,8 +1,5 @@
 -- The 5GS mobile identity (TS 24.501 clause 9.11.3.4).
-use Rattle.std.specs.Prelude.{◌≡◌, ℕ, Bool, List, [], ◌∷◌, ◌++◌, length, take, drop, slice_index, nat_lt, nat_le, ◌==◌, ◌&&◌, Option, Some, None, Result, Ok, Err, if◌then◌else◌}
-use Rattle.nas_base.specs.Digits.{are_digits, digits_between}
-use Rattle.nas_base.specs.Plmn.{PlmnIdentity}
-use Rattle.mm_messages.specs.Packed.{halves_of, packed, plmn_in, plmn_octets, unfilled}
+use Rattle.std.specs.Prelude.{◌≡◌, ℕ, List, length, slice_index, nat_lt, nat_le, ◌==◌, Option, Some, None, Result, Ok, Err, if◌then◌else◌}
 use Rattle.mm_messages.specs.Suci.{SuciParts, suci_in, suci_octets}
 use Rattle.mm_messages.specs.declared.identity.Identity.{Identity}
 use Rattle.mm_messages.specs.declared.identity.Identity.TheVariants.{Suci, Other}

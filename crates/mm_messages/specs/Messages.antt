@@ -1,5 +1,5 @@
 -- The 5GMM messages, between octets and values (TS 24.501 clause 8.2).
-use Rattle.std.specs.Prelude.{ℕ, ◌%◌, Bool, not, List, length, drop, slice_index, nat_lt, ◌==◌, ◌&&◌, Result, Ok, Err, if◌then◌else◌}
+use Rattle.std.specs.Prelude.{ℕ, ◌%◌, not, List, length, drop, slice_index, nat_lt, ◌==◌, ◌&&◌, Result, Err, if◌then◌else◌}
 use Rattle.nas_base.specs.Reading.{Place}
 use Rattle.mm_messages.specs.Registration.{registration_reject, registration_reject_at, registration_request, registration_request_at}
 use Rattle.mm_messages.specs.declared.message.Mm.{Mm}

@@ -1,5 +1,5 @@
 -- Decimal digits in octets, two in each, the first in the low half (binary coded decimal).
-use Rattle.std.specs.Prelude.{ℕ, ◌+◌, ◌-◌, ◌*◌, ◌/◌, ◌%◌, List, [], ◌∷◌, ◌++◌, length, take, slice_index, ◌==◌, Option, if◌then◌else◌}
+use Rattle.std.specs.Prelude.{ℕ, ◌+◌, ◌-◌, ◌*◌, ◌/◌, ◌%◌, List, [], ◌∷◌, length, take, slice_index, ◌==◌, Option, if◌then◌else◌}
 use Rattle.nas_base.specs.Plmn.{PlmnIdentity, plmn_from}
 
 -- what stands in a half where no digit does

@@ -1,5 +1,5 @@
 -- The messages of registration (TS 24.501 clauses 8.2.6 and 8.2.9).
-use Rattle.std.specs.Prelude.{ℕ, ◌+◌, ◌%◌, List, [], ◌∷◌, ◌++◌, slice_index, ◌==◌, Option, Some, None, Result, Ok, Err, if◌then◌else◌}
+use Rattle.std.specs.Prelude.{ℕ, ◌+◌, ◌%◌, List, [], ◌∷◌, ◌++◌, slice_index, ◌==◌, Option, None, Result, Ok, if◌then◌else◌}
 use Rattle.nas_base.specs.Reading.{Place, halves_at, lve_at, octets_at}
 use Rattle.nas_base.specs.Writing.{lve, optional_tlv}
 use Rattle.mm_messages.specs.Identity.{identity_in, identity_octets}

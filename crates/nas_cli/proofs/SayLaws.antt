@@ -1,5 +1,5 @@
 -- Want of memory before anything was written.
-use Rattle.std.proofs.Common.{◌≡◌, ℕ, List, Option, Some, None, arith, inl, inr, refl}
+use Rattle.std.proofs.Common.{ℕ, List, Option, Some, None, arith, inr, refl}
 use Rattle.nas_base.proofs.SinkLaws.{front_nothing}
 use Rattle.nas_cli.specs.Files.{Content}
 use Rattle.nas_cli.specs.Program.{Answer, Says, SaysRun, answer_to, planned}

@@ -1,5 +1,5 @@
 -- What the program answers: a status, and the text that it writes.
-use Rattle.std.specs.Prelude.{◌≡◌, ◌⊎◌, Bool, true, false, ℕ, ◌<◌, ◌≤◌, ◌++◌, List, [], ◌∷◌, length, take, codes, nat_eq, nat_lt, ◌&&◌, Option, Some, None, option_map, IfSome, Result, Ok, Err, if◌then◌else◌}
+use Rattle.std.specs.Prelude.{◌≡◌, ◌⊎◌, Bool, true, false, ℕ, ◌<◌, ◌≤◌, ◌++◌, List, [], ◌∷◌, length, take, codes, nat_eq, nat_lt, Option, Some, None, option_map, IfSome, Result, Ok, Err, if◌then◌else◌}
 use Rattle.std.specs.Cmp.Lexicographic.{pointwise}
 use Rattle.std.specs.Fmt.{decimal}
 use Rattle.std.specs.Io.KnownBytes.{Appends}

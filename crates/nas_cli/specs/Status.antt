@@ -1,5 +1,5 @@
 -- The statuses that the program ends with.
-use Rattle.std.specs.Prelude.{ℕ, Bool, List, [], ◌∷◌, ◌==◌}
+use Rattle.std.specs.Prelude.{ℕ, Bool, [], ◌∷◌, ◌==◌}
 use Rattle.std.specs.List.{list_any}
 
 abbrev pub is_status : ℕ → Bool

@@ -1,9 +1,8 @@
 -- One more subscriber.
-use Rattle.std.proofs.Common.{◌≡◌, ◌∙◌, ℕ, ◌≤◌, ◌+◌, Bool, true, false, not, ◌&&◌, List, [], ◌∷◌, ◌++◌, length, Option, Some, None, Result, Ok, ap, refl, sym, subst, append_assoc, arith}
+use Rattle.std.proofs.Common.{◌≡◌, ℕ, true, false, List, [], ◌∷◌, ◌++◌, Option, Some, None, Ok, refl, subst, arith}
 use Rattle.std.specs.Prelude.{IfSome}
 use Rattle.std.specs.List.{list_all}
 use Rattle.std.specs.Option.{option_and_then}
-use Rattle.std.proofs.lemmas.Bool.Decides.{nat_tests}
 use Rattle.std.proofs.lemmas.Grind.{common_steps}
 use Rattle.std.proofs.lemmas.List.Folds.{list_all-append}
 use Rattle.toml.specs.Data.{Data}
@@ -15,7 +14,6 @@ use Rattle.nas_script.specs.Config.{new_supi, subscribers_in}
 use Rattle.nas_script.specs.Fields.{supi_at}
 use Rattle.nas_script.specs.Reads.{named}
 use Rattle.nas_script.specs.declared.key.Key.{Key}
-use Rattle.nas_script.specs.declared.key.Key.TheVariants as keys
 
 pub are_new-push : (before ss : List Subscriber) (s : Subscriber) → are_new before ss ≡ true → is_subscriber s.supi (before ++ ss) ≡ false →
     are_new before (ss ++ s ∷ []) ≡ true

@@ -1,8 +1,8 @@
 -- Lines, octet by octet.
-use Rattle.std.proofs.Common.{◌≡◌, ◌∙◌, ℕ, ◌+◌, ◌≤◌, Bool, true, false, cond, List, [], ◌∷◌, ◌++◌, length, drop, eqb, refl, ap, arith}
+use Rattle.std.proofs.Common.{◌≡◌, ℕ, ◌+◌, ◌≤◌, Bool, true, false, cond, List, [], ◌∷◌, ◌++◌, length, eqb, refl, ap, arith}
 use Rattle.std.proofs.lemmas.Bool.Decides.{nat_tests}
 use Rattle.std.proofs.lemmas.Grind.{common_steps}
-use Rattle.nas_script.specs.Lines.{count_events, is_event, split, with_first}
+use Rattle.nas_script.specs.Lines.{count_events, split, with_first}
 
 -- the lines behind the first
 abbrev pub others : List (List ℕ) → List (List ℕ)

@@ -1,7 +1,6 @@
 -- What the ends send fits one message.
 use Rattle.std.proofs.Common.{◌≡◌, ℕ, ◌≤◌, true, List, length, Some, arith}
 use Rattle.std.proofs.lemmas.Bool.Decides.{nat_tests}
-use Rattle.std.proofs.lemmas.Grind.{common_steps}
 use Rattle.nas_base.specs.Digits.{are_digits}
 use Rattle.mm_messages.specs.Messages.{spelling}
 use Rattle.mm_messages.specs.Registration.{registration_reject, registration_request}

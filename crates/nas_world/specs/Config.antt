@@ -1,5 +1,5 @@
 -- What a world is made of.
-use Rattle.std.specs.Prelude.{ℕ, Bool, not, List, ◌&&◌}
+use Rattle.std.specs.Prelude.{ℕ, List}
 use Rattle.nas_base.specs.Plmn.{PlmnIdentity}
 use Rattle.nas_world.specs.declared.config.Subscriber.{Subscriber}
 

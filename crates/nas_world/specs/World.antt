@@ -1,5 +1,5 @@
 -- Both ends, and what each event does to them.
-use Rattle.std.specs.Prelude.{ℕ, Bool, true, false, not, List, [], nat_lt, ◌||◌, ◌∷◌, ◌++◌, Option, Some, None, Result, Ok, Err, if◌then◌else◌}
+use Rattle.std.specs.Prelude.{Bool, true, false, not, List, [], nat_lt, ◌||◌, ◌∷◌, ◌++◌, Option, Some, None, Result, Ok, Err, if◌then◌else◌}
 use Rattle.nas_base.specs.Supi.{msin_of}
 use Rattle.nas_base.specs.declared.kind.Kind.{Kind}
 use Rattle.nas_base.specs.declared.kind.Kind.TheVariants as kinds
@@ -14,7 +14,6 @@ use Rattle.nas_world.specs.Config.{HandsetValues, WorldValues}
 use Rattle.nas_world.specs.Logs.{sent_at}
 use Rattle.nas_world.specs.declared.event.Event.{Event}
 use Rattle.nas_world.specs.declared.event.Event.TheVariants.{Command, ToNet, ToUe}
-use Rattle.nas_world.specs.declared.event.RefusedWord.{RefusedWord}
 use Rattle.nas_world.specs.declared.event.RefusedWord.TheVariants.{WrongState}
 use Rattle.nas_world.specs.declared.event.UeCommand.TheVariants.{Register}
 use Rattle.nas_world.specs.declared.send.Send.{Send}

@@ -1,5 +1,5 @@
 -- The first name was asked for, and the second then, or perhaps.
-use Rattle.std.proofs.Common.{◌≡◌, true, List, ℕ, [], ◌∷◌, Option}
+use Rattle.std.proofs.Common.{◌≡◌, true, [], ◌∷◌}
 use Rattle.nas_cli.specs.Program.{asks, is_of_content}
 use Rattle.nas_cli.specs.declared.plan.Stop.{Stop}
 use Rattle.nas_cli.proofs.AskLaws.{asks_both, asks_second, if_err_always, on_ok_always}

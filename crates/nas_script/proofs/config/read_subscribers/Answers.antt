@@ -1,13 +1,10 @@
 -- The next table gives one more subscriber of this network, whose SUPI is new.
-use Rattle.std.proofs.Common.{◌≡◌, ◌∙◌, ℕ, ◌+◌, true, false, List, [], ◌∷◌, ◌++◌, length, map, drop, Some, ap, refl, sym, subst, arith}
-use Rattle.std.specs.List.{list_all}
+use Rattle.std.proofs.Common.{◌≡◌, ◌∙◌, ℕ, ◌+◌, true, false, List, [], ◌∷◌, map, drop, ap, refl, sym}
 use Rattle.std.proofs.lemmas.List.{drop_more, length-append}
-use Rattle.toml.specs.Data.{Data}
 use Rattle.toml.specs.View.{view}
 use Rattle.toml.specs.declared.value.Value.{Value}
 use Rattle.nas_base.specs.Supi.{is_of_plmn}
-use Rattle.nas_world.specs.Subscribers.{are_new, is_subscriber}
-use Rattle.nas_world.specs.declared.config.Subscriber.{Subscriber}
+use Rattle.nas_world.specs.Subscribers.{is_subscriber}
 use Rattle.nas_script.specs.Config.{subscribers_in}
 use Rattle.nas_script.proofs.ConfigLaws.{are_new-push, fact_of_some, named_some, network-push, subscribers_in-more}
 use Rattle.nas_script.specs.declared.key.Key.TheVariants as keys

@@ -1,8 +1,7 @@
-use Rattle.std.proofs.Common.{◌≡◌, ◌∙◌, ap, refl, List, ℕ, Ok, Some, sym}
+use Rattle.std.proofs.Common.{◌∙◌, ap, refl, Ok, sym}
 use Rattle.toml.specs.Parse.{parse_document}
 use Rattle.toml.specs.Data.{Data}
 use Rattle.toml.proofs.Views.{view-Table}
-use Rattle.nas_script.specs.Document.{document_in}
 use Rattle.nas_script.specs.Reads.{named}
 use Rattle.nas_script.specs.declared.key.Key.TheVariants.{Toml}
 use Rattle.nas_script.proofs.DocumentLaws.{no_text, one_document}

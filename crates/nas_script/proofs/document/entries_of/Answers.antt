@@ -1,4 +1,4 @@
-use Rattle.std.proofs.Common.{◌≡◌, ◌∙◌, ap, Some, List, map}
+use Rattle.std.proofs.Common.{◌∙◌, ap, Some, List, map}
 use Rattle.toml.specs.View.{view}
 use Rattle.toml.specs.declared.value.Value.{Value}
 use Rattle.nas_script.proofs.DocumentLaws.{entries_found}

@@ -1,11 +1,11 @@
 -- Each write tells a front of the transcript, and what tells the rest tells the whole.
-use Rattle.std.proofs.Common.{◌≡◌, ◌∙◌, ◌+◌, ap, refl, sym, subst, List, ℕ, Option, Ok, Err, Result, is_ok, drop, length}
+use Rattle.std.proofs.Common.{◌∙◌, ◌+◌, ap, refl, subst, List, ℕ, is_ok, drop}
 use Rattle.std.proofs.lemmas.Result.{err_from_is_err_and}
 use Rattle.nas_base.specs.Outside.{Tells}
 use Rattle.nas_base.proofs.SinkLaws.{tells_after, tells_front}
 use Rattle.nas_world.specs.World.{first, step_of}
 use Rattle.nas_script.specs.Fault.{is_output}
-use Rattle.nas_script.specs.Transcript.{event_text, events_text, head_text, transcript_of}
+use Rattle.nas_script.specs.Transcript.{events_text, head_text}
 use Rattle.nas_script.proofs.TranscriptLaws.{transcript_from, events_text-drop}
 use Rattle.nas_script.proofs.telling.transcript.Goals as goal
 
