@@ -353,6 +353,7 @@ fn words_of_no_form_read_no_file(rt: HostRuntime) -> Result<(), Fail> {
         ["run", "config", "script", "more"],
         ["Run", "config", "script", ""],
         ["show", "7e005d220002a020360102", "", ""],
+        ["vectors", "config", "", ""],
     ];
     for row in &table {
         let mut words = Words::new(alloc);
@@ -408,5 +409,24 @@ fn an_output_that_fails_has_a_front_of_the_transcript(rt: HostRuntime) -> Result
     let mut out = FaultySink::new(alloc, vec![in alloc; 6u64]?);
     assert_eq!(rt; nas(alloc, &words, &mut files, &mut out).0, 0);
     assert_eq!(rt; out.octets(), UNKNOWN_TRANSCRIPT.as_bytes());
+    Ok(())
+}
+
+const VECTORS: &str =
+    "aes 69c4e0d86a7b0430d8cdb78070b4c55a\ncmac bb1d6929e95937287fa37d129b756746\ncmac16 070a16b46b4d4144f79bdd9dd04a287c\nopc cd63cb71954a9f4e48a5994e37a02baf\nf1 4a9ffac354dfafb3\nf2 a54211d5e3ba50bf\nf3 b40ba9a3c58b2a05bbf0d987b21bf8cb\nf4 f769bcd751044604127672711c6d3441\nf5 aa689c648370\nf1s 01cfaf9ec4e871e9\nf5s 451e8beca43b\nhmac b0344c61d8db38535ca8afceaf0bf12b881dc200c9833da726e9376c2e32cff7\n";
+
+#[test]
+fn the_published_vectors_are_printed(rt: HostRuntime) -> Result<(), Fail> {
+    let alloc = rt.alloc();
+    let mut words = Words::new(alloc);
+    words.push(alloc, "vectors")?;
+    let mut files = MemoryFiles::new(alloc);
+    let mut out = MemorySink::new(alloc);
+    assert_eq!(rt; nas_in_memory(alloc, &words, &mut files, &mut out).0, 0);
+    assert_eq!(rt; out.octets(), VECTORS.as_bytes());
+    assert!(rt; files.asked().is_empty());
+
+    let mut out = FaultySink::new(alloc, vec![in alloc; 1u64]?);
+    assert_eq!(rt; nas(alloc, &words, &mut files, &mut out).0, 6);
     Ok(())
 }

@@ -116,7 +116,12 @@ fn append_outputs(alloc: Global, text: &mut Vec<u8>, opc: &[u8; 16]) -> Result<(
 fn append_resynchronisation(alloc: Global, text: &mut Vec<u8>, opc: &[u8; 16]) -> Result<(), Memory>
     ensures { OnOk result (text.new.items ≡ text.old.items ++ resynchronisation_lines opc.now) }
 {
-    append_value(alloc, text, "f1s", &f1_star(&K, opc, &RAND, &SQN, &AMF_FIELD))?;
+    append_value(
+        alloc,
+        text,
+        "f1s",
+        &f1_star(&K, opc, &RAND, &SQN, &AMF_FIELD),
+    )?;
     append_value(alloc, text, "f5s", &f5_star(&K, opc, &RAND))
 }
 
