@@ -1,8 +1,10 @@
 //! The files of the machine. What they hold is not told.
-ghost use Rattle.std.specs.Prelude.{◌≡◌, ◌≤◌, length, IfOk, IfErr};
+ghost use Rattle.std.specs.Prelude.{◌≡◌, ◌≤◌, ◌≢◌, length, IfOk, IfErr};
 ghost use Rattle.nas_base.specs.Outside.{Rose};
 ghost use Rattle.nas_cli.specs.Files.{AboveLimit, IsErrorOfReading};
-ghost use Rattle.nas_cli.specs.declared.files.FileRefusal.TheVariants.{Failed};
+ghost use Rattle.nas_cli.specs.declared.files.FileRefusal.TheVariants.{Failed, Memory};
+ghost use Rattle.std.specs.IoError.{error_kind};
+ghost use Rattle.std.specs.declared.io.ErrorKind.TheVariants.{OutOfMemory};
 
 use crate::files::{FileRefusal, Files};
 use nas_base::Octets1M;
@@ -44,7 +46,9 @@ impl<'a, R: rt::Files> Disk<'a, R> {
 
 // Want of memory is told apart from all other failures.
 fn refusal_of(error: io::Error) -> FileRefusal
-    ensures { IsErrorOfReading result }
+    ensures value { IsErrorOfReading result }
+    ensures memory { result ≡ Memory → error_kind error ≡ OutOfMemory }
+    ensures failed { result ≡ Failed → error_kind error ≢ OutOfMemory }
 {
     if error.kind() == io::ErrorKind::OutOfMemory {
         FileRefusal::Memory

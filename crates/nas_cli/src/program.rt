@@ -1,7 +1,8 @@
 //! The program.
-ghost use Rattle.std.specs.Prelude.{◌≡◌, ◌≢◌, ◌∷◌, [], false, true, None, IfSome, IfNone, option_map};
+ghost use Rattle.std.specs.Prelude.{◌≡◌, ◌≢◌, ◌∷◌, [], false, true, None, Some, IfSome, IfNone, option_map};
 ghost use Rattle.nas_base.specs.Outside.{Rose};
-ghost use Rattle.nas_cli.specs.Program.{AsksFirst, IsOfContent, IsRefused, Says, SaysRun, asks, names_in, run_form, vectors_answer, words_answer, is_vectors};
+ghost use Rattle.nas_cli.specs.Program.{AsksFirst, IsOfContent, IsRefused, Says, SaysRun, asks, names_in, answer_to, planned, run_form, vectors_answer, words_answer, is_vectors};
+ghost use Rattle.nas_cli.specs.Shelf.{octets_named};
 
 use crate::answers::{
     tell_config, tell_file, tell_run, tell_script, tell_too_long, tell_vectors, tell_words,
@@ -51,7 +52,8 @@ pub fn nas<F: Files, O: Sink>(
     }
 }
 
-/// The same over objects in memory, which never fail: so no fault of them is answered.
+/// The same over objects in memory, which never fail: so no fault of them is answered, and what is said is the answer or,
+/// where memory is wanting, a front of it.
 pub fn nas_in_memory(
     alloc: Global,
     words: &Words,
@@ -60,6 +62,10 @@ pub fn nas_in_memory(
 ) -> ExitStatus
     ensures no_file_fault { result ≢ 5 }
     ensures no_output_fault { result ≢ 6 }
+    ensures words { IfNone (run_form words.now) (is_vectors words.now ≡ false → Says (Some out.old) (Some out.new) 0 0 words_answer result) }
+    ensures vectors { is_vectors words.now ≡ true → Says (Some out.old) (Some out.new) 0 0 vectors_answer result }
+    ensures run { IfSome (run_form words.now) (λ names. Says (Some out.old) (Some out.new) 0 0
+        (answer_to (planned (Some (octets_named names.0 files.old.files)) (Some (octets_named names.1 files.old.files)))) result) }
 {
     nas(alloc, words, files, out)
 }
