@@ -3,11 +3,12 @@
 usage: aes.py PROBE [LINES [SEED]]
 """
 import random
-import subprocess
 import sys
 
 from cryptography.hazmat.primitives.ciphers import Cipher, algorithms, modes
 from cryptography.hazmat.primitives.cmac import CMAC
+
+from probe import compare, text
 
 MOST = 4200  # octets of a message
 BEARER = 1  # the NAS connection over 3GPP access
@@ -41,10 +42,6 @@ def nia2(key, count, direction, octets):
 
 def nea2(key, count, direction, octets):
     return ctr_apply(key, head(count, direction) + bytes(8), octets)
-
-
-def text(octets):
-    return octets.hex() if octets else "-"
 
 
 def size(rng):
@@ -88,18 +85,7 @@ def main():
     seed = int(sys.argv[3]) if len(sys.argv) > 3 else 1
     rng = random.Random(seed)
     cases = [case(rng) for _ in range(lines)]
-    given = "".join(line + "\n" for line, _ in cases)
-    run = subprocess.run([probe], input=given, capture_output=True, text=True)
-    answers = run.stdout.splitlines()
-    if run.returncode != 0 or len(answers) != lines:
-        print(f"aes: {probe} ended with status {run.returncode} and {len(answers)} answers for {lines} lines: {run.stderr}")
-        return 1
-    for (line, wanted), answer in zip(cases, answers):
-        if answer != text(wanted):
-            print(f"aes: {line}\n  wanted {text(wanted)}\n  got    {answer}")
-            return 1
-    print(f"aes: {lines} lines agree with the package cryptography (seed {seed})")
-    return 0
+    return compare("aes", probe, cases, "the package cryptography", seed)
 
 
 if __name__ == "__main__":

@@ -5,8 +5,9 @@ usage: keys.py PROBE [ROUNDS [SEED]]
 import hashlib
 import hmac
 import random
-import subprocess
 import sys
+
+from probe import compare, text
 
 
 def mac(key, text):
@@ -19,10 +20,6 @@ def kdf(key, fc, *parameters):
     for parameter in parameters:
         text += parameter + len(parameter).to_bytes(2, "big")
     return mac(key, text)
-
-
-def text(octets):
-    return octets.hex() if octets else "-"
 
 
 def length(rng, most):
@@ -70,18 +67,7 @@ def main():
     seed = int(sys.argv[3]) if len(sys.argv) > 3 else 1
     rng = random.Random(seed)
     cases = [case for _ in range(rounds) for kind in (hmac_cases, kdf_cases, chain_cases) for case in kind(rng)]
-    given = "".join(line + "\n" for line, _ in cases)
-    run = subprocess.run([probe], input=given, capture_output=True, text=True)
-    answers = run.stdout.splitlines()
-    if run.returncode != 0 or len(answers) != len(cases):
-        print(f"keys: {probe} ended with status {run.returncode} and {len(answers)} answers for {len(cases)} lines: {run.stderr}")
-        return 1
-    for (line, wanted), answer in zip(cases, answers):
-        if answer != text(wanted):
-            print(f"keys: {line[:400]}\n  wanted {text(wanted)}\n  got    {answer}")
-            return 1
-    print(f"keys: {len(cases)} lines agree with Python's hmac (seed {seed})")
-    return 0
+    return compare("keys", probe, cases, "Python's hmac", seed)
 
 
 if __name__ == "__main__":
