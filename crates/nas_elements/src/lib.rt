@@ -1,0 +1,8 @@
+//! The information elements of 5GMM and 5GSM messages, each between octets and a value (TS 24.501 clause 9.11).
+#![tactic(auto)]
+
+mod capability;
+mod wrong;
+
+pub use crate::capability::Capability;
+pub use crate::wrong::Wrong;
