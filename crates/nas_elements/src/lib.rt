@@ -2,7 +2,9 @@
 #![tactic(auto)]
 
 mod capability;
+mod laws;
 mod wrong;
 
 pub use crate::capability::Capability;
+pub use crate::laws::capability_is_read_back;
 pub use crate::wrong::Wrong;
