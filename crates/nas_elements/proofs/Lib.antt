@@ -1,1 +1,5 @@
+pub mod Fronts
+pub mod GutiFronts
+pub mod LayoutLaws
+pub mod PackedLaws
 pub mod Sized

@@ -2,9 +2,19 @@
 #![tactic(auto)]
 
 mod capability;
+mod guti;
+mod identity;
 mod laws;
+mod layout;
+mod other;
+mod packed;
+mod suci;
 mod wrong;
 
 pub use crate::capability::Capability;
+pub use crate::guti::{Guti, Stmsi};
+pub use crate::identity::{Identity, IdentityRefusal};
 pub use crate::laws::capability_is_read_back;
+pub use crate::other::OtherIdentity;
+pub use crate::suci::Suci;
 pub use crate::wrong::Wrong;

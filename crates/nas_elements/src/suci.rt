@@ -1,22 +1,16 @@
-//! The identity that a handset names itself by.
+//! The SUCI of an IMSI.
 ghost use Rattle.std.specs.Prelude.{◌≡◌, ◌≤◌, length};
-ghost use Rattle.mm_messages.specs.Identity.{IsRead, identity_in};
-ghost use Rattle.mm_messages.specs.Suci.{msin_in, routing_in, routing_octets, suci_in, suci_octets};
+ghost use Rattle.nas_base.specs.Writing.{Writes};
+ghost use Rattle.nas_elements.specs.Layout.{met, suci_layout};
+ghost use Rattle.nas_elements.specs.Reads.{Reads};
+ghost use Rattle.nas_elements.specs.Suci.{is_null_scheme, msin_in, routing_in, routing_octets, suci_in, suci_octets};
 
+use crate::Wrong;
+use crate::layout::{Line, met_by};
 use crate::packed::{FILLER, halves, pack, plmn_of, plmn_to, two_halves, without_filler};
 use arrayvec::ArrayVec;
-use nas_base::{Digits, Octets, OctetsRefusal, Plmn};
-use std::alloc::Global;
+use nas_base::{Digits, Full, Plmn, Writer};
 use std::marker::Model;
-
-/// The 5GS mobile identity (TS 24.501 clause 9.11.3.4).
-#[derive(Drop)]
-pub enum Identity {
-    /// A SUCI of an IMSI under the null scheme.
-    Suci(Suci),
-    /// Any other identity, as its octets: another scheme, another SUPI format, another type.
-    Other(Octets),
-}
 
 /// The SUCI of an IMSI under the null scheme: the network, a routing indicator of 1 to 4 digits, and an MSIN of 1 to 10
 /// (TS 23.003 clause 2.2B).
@@ -29,7 +23,7 @@ pub struct Suci {
 
 impl Model for Suci {
     ghost use Rattle.std.specs.Prelude.{◌≡◌, true};
-    ghost use Rattle.mm_messages.specs.Suci.{SuciParts, is_suci};
+    ghost use Rattle.nas_elements.specs.Suci.{SuciParts, is_suci};
 
     ghost Value = { SuciParts };
 
@@ -40,19 +34,39 @@ impl Model for Suci {
     ghost inverse = { λ s. record { plmn = s.plmn; routing = s.routing; msin = s.msin } };
 }
 
-/// Why octets were not read as an identity.
-pub enum IdentityRefusal {
-    /// No identity has them.
-    Wrong,
-    Memory,
-}
-
 // The SUPI format and the type of identity in the first octet of an IMSI's SUCI.
-const IMSI_SUCI: u8 = 0x01;
+pub const IMSI_SUCI: u8 = 0x01;
 
 impl Suci {
-    /// Its octets: 9 to 13.
-    pub(crate) fn octets(&self) -> ArrayVec<u8, 13>
+    /// The SUCI in the octets.
+    ///
+    /// # Errors
+    ///
+    /// `Wrong` exactly where no SUCI of an IMSI under the null scheme has these octets.
+    pub fn read(octets: &[u8]) -> Result<Suci, Wrong>
+        ensures { Reads suci_in octets.now result }
+    {
+        match Suci::from_slice(octets) {
+            Some(suci) => Ok(suci),
+            None => Err(Wrong {
+                at: met_by_suci(octets),
+            }),
+        }
+    }
+
+    /// Writes its octets: 9 to 13.
+    ///
+    /// # Errors
+    ///
+    /// `Full` exactly where they don't fit; nothing is then written.
+    pub fn write(&self, out: &mut Writer) -> Result<(), Full>
+        ensures { Writes (suci_octets self.now) out.old out.new result }
+    {
+        out.put(self.octets().as_slice())
+    }
+
+    // Its octets.
+    fn octets(&self) -> ArrayVec<u8, 13>
         ensures { result.items ≡ suci_octets self.now }
     {
         let mut octets = ArrayVec::new();
@@ -68,13 +82,11 @@ impl Suci {
         octets
     }
 
-    // The SUCI in octets that begin with an IMSI's and have the null scheme.
-    #[tactic(auto, unfolding(crate::specs::Suci::suci_in))]
-    fn read(octets: &[u8]) -> Option<Suci>
-        requires { 7 ≤ length octets.now }
+    // The SUCI in the octets, if there is one.
+    fn from_slice(octets: &[u8]) -> Option<Suci>
         ensures { result ≡ suci_in octets.now }
     {
-        if octets.len() < 8 || octets[7] != 0 {
+        if !has_null_scheme(octets) {
             return None;
         }
         let plmn = plmn_of(octets[1], octets[2], octets[3])?;
@@ -86,6 +98,37 @@ impl Suci {
             msin,
         })
     }
+}
+
+/// How many octets are the front of a SUCI's.
+pub fn met_by_suci(octets: &[u8]) -> usize
+    ensures { result ≡ met 0 suci_layout octets.now }
+{
+    met_by(
+        &[
+            Line::Is(IMSI_SUCI),
+            Line::TwoDigits,
+            Line::DigitAndPerhapsAnother,
+            Line::TwoDigits,
+            Line::DigitAndPerhapsAnother,
+            Line::RoutingEnd,
+            Line::Is(0),
+            Line::Is(0),
+            Line::DigitAndPerhapsAnother,
+            Line::MoreDigits,
+            Line::MoreDigits,
+            Line::MoreDigits,
+            Line::MoreDigits,
+        ],
+        octets,
+    )
+}
+
+// Whether they begin as an IMSI's SUCI and have the null scheme with its key identifier.
+fn has_null_scheme(octets: &[u8]) -> bool
+    ensures { result ≡ is_null_scheme octets.now }
+{
+    octets.len() >= 8 && octets[0] == IMSI_SUCI && octets[6] == 0 && octets[7] == 0
 }
 
 // The two octets of a routing indicator, with fillers behind its digits.
@@ -122,32 +165,4 @@ fn msin_of(octets: &[u8]) -> Option<Digits>
     }
     let halves = halves(octets);
     Digits::between(1, 10, without_filler(halves.as_slice()))
-}
-
-impl Identity {
-    /// The identity in the octets.
-    #[tactic(auto, unfolding(crate::specs::Identity::identity_in))]
-    pub(crate) fn read(alloc: Global, octets: &[u8]) -> Result<Identity, IdentityRefusal>
-        ensures { IsRead result (identity_in octets.now) }
-    {
-        if octets.is_empty() {
-            return Err(IdentityRefusal::Wrong);
-        }
-        if octets[0] == IMSI_SUCI {
-            if octets.len() < 7 {
-                return Err(IdentityRefusal::Wrong);
-            }
-            if octets[6] == 0 {
-                return match Suci::read(octets) {
-                    Some(suci) => Ok(Identity::Suci(suci)),
-                    None => Err(IdentityRefusal::Wrong),
-                };
-            }
-        }
-        match Octets::copy(alloc, octets) {
-            Ok(octets) => Ok(Identity::Other(octets)),
-            Err(OctetsRefusal::TooMany { size: _ }) => Err(IdentityRefusal::Wrong),
-            Err(OctetsRefusal::Memory) => Err(IdentityRefusal::Memory),
-        }
-    }
 }

@@ -1,6 +1,6 @@
 use Rattle.std.proofs.Common.{◌≡◌, ◌*◌, ◌++◌, length, drop}
-use Rattle.mm_messages.specs.Packed.{halves_of}
-use Rattle.mm_messages.proofs.packed.halves.Given as goal
+use Rattle.nas_elements.specs.Packed.{halves_of}
+use Rattle.nas_elements.proofs.packed.halves.Given as goal
 
 -- the halves so far and those of the octets that are left are those of all
 abbrev pub invariant-loop-octet : goal.invariant-loop-octet

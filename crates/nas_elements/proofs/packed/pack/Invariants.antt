@@ -1,7 +1,7 @@
 use Rattle.std.proofs.Common.{◌≡◌, true, ◌+◌, ◌*◌, ◌++◌, length}
 use Rattle.nas_base.specs.Digits.{all_digits}
-use Rattle.mm_messages.specs.Packed.{packed}
-use Rattle.mm_messages.proofs.packed.pack.Given as goal
+use Rattle.nas_elements.specs.Packed.{packed}
+use Rattle.nas_elements.proofs.packed.pack.Given as goal
 
 -- what is packed and what packing the digits that are left gives are the whole
 abbrev pub invariant-loop-left : goal.invariant-loop-left

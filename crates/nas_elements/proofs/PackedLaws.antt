@@ -2,8 +2,8 @@
 use Rattle.std.proofs.Common.{◌≡◌, ℕ, ◌+◌, ◌*◌, ◌<◌, ◌≤◌, List, [], ◌∷◌, length, None, arith, refl}
 use Rattle.std.proofs.lemmas.Bool.Decides.{nat_tests}
 use Rattle.std.proofs.lemmas.Grind.{common_steps}
-use Rattle.mm_messages.specs.Packed.{halves_of, unfilled}
-use Rattle.mm_messages.specs.Suci.{msin_in}
+use Rattle.nas_elements.specs.Packed.{halves_of, unfilled}
+use Rattle.nas_elements.specs.Suci.{msin_in}
 
 pub length-halves_of : (octets : List ℕ) → length (halves_of octets) ≡ 2 * length octets
 length-halves_of [] = refl

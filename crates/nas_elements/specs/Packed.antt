@@ -1,5 +1,5 @@
 -- Decimal digits in octets, two in each, the first in the low half (binary coded decimal).
-use Rattle.std.specs.Prelude.{ℕ, ◌+◌, ◌-◌, ◌*◌, ◌/◌, ◌%◌, List, [], ◌∷◌, length, take, slice_index, ◌==◌, Option, if◌then◌else◌}
+use Rattle.std.specs.Prelude.{ℕ, ◌+◌, ◌-◌, ◌*◌, ◌/◌, ◌%◌, List, [], ◌∷◌, length, take, slice_index, ◌==◌, Option, Some, None, if◌then◌else◌}
 use Rattle.nas_base.specs.Plmn.{PlmnIdentity, plmn_from}
 
 -- what stands in a half where no digit does
@@ -38,3 +38,9 @@ abbrev pub plmn_in : ℕ → ℕ → ℕ → Option PlmnIdentity
 plmn_in a b c =
     plmn_from (a % 16 ∷ a / 16 ∷ b % 16 ∷ [])
     (if b / 16 == filler then c % 16 ∷ c / 16 ∷ [] else c % 16 ∷ c / 16 ∷ b / 16 ∷ [])
+
+-- a value that rests on others, where these are there
+infixl 10 ◌>>=◌
+abbrev pub ◌>>=◌ : {A B : Type 0} → Option A → (A → Option B) → Option B
+(Some x) >>= f = f x
+None >>= f = None

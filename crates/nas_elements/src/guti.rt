@@ -1,0 +1,199 @@
+//! The temporary identities: 5G-GUTI and 5G-S-TMSI.
+ghost use Rattle.std.specs.Prelude.{◌≡◌};
+ghost use Rattle.byteorder.specs.Endian.{big_bytes};
+ghost use Rattle.nas_base.specs.Writing.{Writes};
+ghost use Rattle.nas_elements.specs.Guti.{guti_in, guti_octets, stmsi_in, stmsi_octets};
+ghost use Rattle.nas_elements.specs.Layout.{guti_layout, met, stmsi_layout};
+ghost use Rattle.nas_elements.specs.Reads.{Reads};
+
+use crate::Wrong;
+use crate::layout::{Line, met_by};
+use crate::packed::{plmn_of, plmn_to};
+use arrayvec::ArrayVec;
+use byteorder::{BigEndian, ByteOrder};
+use nas_base::{Full, Plmn, Writer};
+
+/// The 5G-GUTI: the network, the AMF in it (the region, and set and pointer as one number of 10 and 6 bits), and the 5G-TMSI
+/// that this AMF gave (TS 23.003 clause 2.10.1).
+#[derive(Debug, Drop, PartialEq, Eq)]
+pub struct Guti {
+    pub plmn: Plmn,
+    pub region: u8,
+    pub set_pointer: u16,
+    pub tmsi: u32,
+}
+
+/// The 5G-S-TMSI: what is left of a 5G-GUTI within its region (TS 23.003 clause 2.11).
+#[derive(Clone, Copy, Debug, PartialEq, Eq)]
+pub struct Stmsi {
+    pub set_pointer: u16,
+    pub tmsi: u32,
+}
+
+// Type of identity 2 and 4, the bits above it set.
+const GUTI: u8 = 0xf2;
+const STMSI: u8 = 0xf4;
+
+impl Guti {
+    /// The 5G-GUTI in the octets.
+    ///
+    /// # Errors
+    ///
+    /// `Wrong` exactly where no 5G-GUTI has these octets.
+    #[tactic(auto, using(crate::proofs::GutiFronts::wrong_guti))]
+    pub fn read(octets: &[u8]) -> Result<Guti, Wrong>
+        ensures { Reads guti_in octets.now result }
+    {
+        match Guti::from_slice(octets) {
+            Some(guti) => Ok(guti),
+            None => Err(Wrong {
+                at: met_by_guti(octets),
+            }),
+        }
+    }
+
+    /// Writes its 11 octets.
+    ///
+    /// # Errors
+    ///
+    /// `Full` exactly where they don't fit; nothing is then written.
+    pub fn write(&self, out: &mut Writer) -> Result<(), Full>
+        ensures { Writes (guti_octets self.now) out.old out.new result }
+    {
+        let mut octets = ArrayVec::<u8, 11>::new();
+        octets.push(GUTI);
+        octets.try_extend_from_slice(&plmn_to(&self.plmn)).unwrap();
+        octets.push(self.region);
+        octets
+            .try_extend_from_slice(&in_two_octets(self.set_pointer))
+            .unwrap();
+        octets
+            .try_extend_from_slice(&in_four_octets(self.tmsi))
+            .unwrap();
+        out.put(octets.as_slice())
+    }
+
+    // The 5G-GUTI in the octets, if there is one.
+    fn from_slice(octets: &[u8]) -> Option<Guti>
+        ensures { result ≡ guti_in octets.now }
+    {
+        if octets.len() != 11 || octets[0] % 8 != GUTI % 8 {
+            return None;
+        }
+        let plmn = plmn_of(octets[1], octets[2], octets[3])?;
+        Some(Guti {
+            plmn,
+            region: octets[4],
+            set_pointer: BigEndian::read_u16(&octets[5..]),
+            tmsi: BigEndian::read_u32(&octets[7..]),
+        })
+    }
+}
+
+impl Stmsi {
+    /// The 5G-S-TMSI in the octets.
+    ///
+    /// # Errors
+    ///
+    /// `Wrong` exactly where no 5G-S-TMSI has these octets.
+    #[tactic(auto, using(crate::proofs::GutiFronts::wrong_stmsi))]
+    pub fn read(octets: &[u8]) -> Result<Stmsi, Wrong>
+        ensures { Reads stmsi_in octets.now result }
+    {
+        match Stmsi::from_slice(octets) {
+            Some(stmsi) => Ok(stmsi),
+            None => Err(Wrong {
+                at: met_by_stmsi(octets),
+            }),
+        }
+    }
+
+    /// Writes its 7 octets.
+    ///
+    /// # Errors
+    ///
+    /// `Full` exactly where they don't fit; nothing is then written.
+    pub fn write(&self, out: &mut Writer) -> Result<(), Full>
+        ensures { Writes (stmsi_octets self.now) out.old out.new result }
+    {
+        let mut octets = ArrayVec::<u8, 7>::new();
+        octets.push(STMSI);
+        octets
+            .try_extend_from_slice(&in_two_octets(self.set_pointer))
+            .unwrap();
+        octets
+            .try_extend_from_slice(&in_four_octets(self.tmsi))
+            .unwrap();
+        out.put(octets.as_slice())
+    }
+
+    // The 5G-S-TMSI in the octets, if there is one.
+    fn from_slice(octets: &[u8]) -> Option<Stmsi>
+        ensures { result ≡ stmsi_in octets.now }
+    {
+        if octets.len() != 7 || octets[0] % 8 != STMSI % 8 {
+            return None;
+        }
+        Some(Stmsi {
+            set_pointer: BigEndian::read_u16(&octets[1..]),
+            tmsi: BigEndian::read_u32(&octets[3..]),
+        })
+    }
+}
+
+/// How many octets are the front of a 5G-GUTI's.
+pub fn met_by_guti(octets: &[u8]) -> usize
+    ensures { result ≡ met 0 guti_layout octets.now }
+{
+    met_by(
+        &[
+            Line::TypeOfIdentity(2),
+            Line::TwoDigits,
+            Line::DigitAndPerhapsAnother,
+            Line::TwoDigits,
+            Line::Any,
+            Line::Any,
+            Line::Any,
+            Line::Any,
+            Line::Any,
+            Line::Any,
+            Line::Any,
+        ],
+        octets,
+    )
+}
+
+/// How many octets are the front of a 5G-S-TMSI's.
+pub fn met_by_stmsi(octets: &[u8]) -> usize
+    ensures { result ≡ met 0 stmsi_layout octets.now }
+{
+    met_by(
+        &[
+            Line::TypeOfIdentity(4),
+            Line::Any,
+            Line::Any,
+            Line::Any,
+            Line::Any,
+            Line::Any,
+            Line::Any,
+        ],
+        octets,
+    )
+}
+
+// A number, its high octet first.
+fn in_two_octets(number: u16) -> [u8; 2]
+    ensures { result ≡ big_bytes 2 number }
+{
+    let mut octets = [0; 2];
+    BigEndian::write_u16(&mut octets, number);
+    octets
+}
+
+fn in_four_octets(number: u32) -> [u8; 4]
+    ensures { result ≡ big_bytes 4 number }
+{
+    let mut octets = [0; 4];
+    BigEndian::write_u32(&mut octets, number);
+    octets
+}
