@@ -3,3 +3,4 @@ pub mod GutiFronts
 pub mod LayoutLaws
 pub mod PackedLaws
 pub mod Sized
+pub mod SuciFronts

@@ -3,7 +3,7 @@ ghost use Rattle.std.specs.Prelude.{◌≡◌, ◌≤◌, length};
 ghost use Rattle.nas_base.specs.Writing.{Writes};
 ghost use Rattle.nas_elements.specs.Layout.{met, suci_layout};
 ghost use Rattle.nas_elements.specs.Reads.{Reads};
-ghost use Rattle.nas_elements.specs.Suci.{is_null_scheme, msin_in, routing_in, routing_octets, suci_in, suci_octets};
+ghost use Rattle.nas_elements.specs.Suci.{is_null_scheme, msin_in, parts, routing_in, routing_octets, suci_in, suci_octets};
 
 use crate::Wrong;
 use crate::layout::{Line, met_by};
@@ -43,6 +43,7 @@ impl Suci {
     /// # Errors
     ///
     /// `Wrong` exactly where no SUCI of an IMSI under the null scheme has these octets.
+    #[tactic(auto, using(crate::proofs::SuciFronts::wrong_suci))]
     pub fn read(octets: &[u8]) -> Result<Suci, Wrong>
         ensures { Reads suci_in octets.now result }
     {
@@ -86,9 +87,18 @@ impl Suci {
     fn from_slice(octets: &[u8]) -> Option<Suci>
         ensures { result ≡ suci_in octets.now }
     {
-        if !has_null_scheme(octets) {
-            return None;
+        if has_null_scheme(octets) {
+            Suci::from_parts(octets)
+        } else {
+            None
         }
+    }
+
+    // The SUCI of the network, the routing indicator and the MSIN that stand in the octets.
+    fn from_parts(octets: &[u8]) -> Option<Suci>
+        requires { 8 ≤ length octets.now }
+        ensures { result ≡ parts octets.now }
+    {
         let plmn = plmn_of(octets[1], octets[2], octets[3])?;
         let routing = routing_of(&octets[4..6])?;
         let msin = msin_of(&octets[8..])?;
