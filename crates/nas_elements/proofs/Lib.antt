@@ -1,5 +1,6 @@
 pub mod Fronts
 pub mod GutiFronts
+pub mod IdentityFronts
 pub mod LayoutLaws
 pub mod PackedLaws
 pub mod Sized

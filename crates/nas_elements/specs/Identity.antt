@@ -21,7 +21,7 @@ map f None = None
 map f (Some x) = Some (f x)
 
 -- the identity in the octets, if there is one
-abbrev pub identity_in : List ℕ → Option Identity
+unfoldable pub identity_in : List ℕ → Option Identity
 identity_in octets =
     if is_other octets then Some (Other octets)
     else (if slice_index octets 0 == 0x01 then map (λ s. Suci s) (suci_in octets)

@@ -69,6 +69,7 @@ impl Identity {
 }
 
 // Keeps the octets as they are.
+#[tactic(auto, unfolding(crate::specs::Identity::identity_in))]
 fn keep(alloc: Global, octets: &[u8]) -> Result<Identity, IdentityRefusal>
     requires some { 0 < length octets.now }
     requires kept { is_kept octets.now ≡ true }
@@ -82,6 +83,7 @@ fn keep(alloc: Global, octets: &[u8]) -> Result<Identity, IdentityRefusal>
 }
 
 // Another scheme could still have followed before the octet that tells the scheme, so nothing is wrong before it.
+#[tactic(auto, unfolding(crate::specs::Identity::identity_in))]
 fn read_suci(octets: &[u8]) -> Result<Identity, IdentityRefusal>
     requires first { slice_index octets.now 0 ≡ 0x01 }
     requires some { 0 < length octets.now }
@@ -96,6 +98,7 @@ fn read_suci(octets: &[u8]) -> Result<Identity, IdentityRefusal>
     }
 }
 
+#[tactic(auto, unfolding(crate::specs::Identity::identity_in))]
 fn read_guti(octets: &[u8]) -> Result<Identity, IdentityRefusal>
     requires kind { type_of_identity octets.now ≡ 2 }
     requires some { 0 < length octets.now }
@@ -107,6 +110,7 @@ fn read_guti(octets: &[u8]) -> Result<Identity, IdentityRefusal>
     }
 }
 
+#[tactic(auto, unfolding(crate::specs::Identity::identity_in))]
 fn read_stmsi(octets: &[u8]) -> Result<Identity, IdentityRefusal>
     requires kind { type_of_identity octets.now ≡ 4 }
     requires some { 0 < length octets.now }
