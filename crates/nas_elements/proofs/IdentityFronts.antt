@@ -220,3 +220,18 @@ pub wrong_empty : (octets : List ℕ) → length octets < 1 → (identity_in oct
 unfolding identity_in
 wrong_empty [] none = (refl, record { within = omega arith; before = record { rest = 0 ∷ []; value = Other (0 ∷ []); whole = refl }; here = λ some starts. grind (arith, some) })
 wrong_empty (o ∷ octets) none = grind (arith, none)
+
+-- the value of an identity is the value that its octets have
+pub suci_identity : (octets : List ℕ) (s : SuciParts) → suci_in octets ≡ Some s → identity_in octets ≡ Some (Suci s)
+suci_identity octets s h = let b = suci_first octets (has_value h) in
+    is_suci_first octets (null_scheme_follows octets b.0 b.1) b.0 ∙ ap (map (λ s. Suci s)) h
+
+pub guti_identity : (octets : List ℕ) (g : Guti) → guti_in octets ≡ Some g → identity_in octets ≡ Some (GutiIdentity g)
+guti_identity octets g h = is_guti octets (guti_kind octets (has_value h)) ∙ ap (map (λ g. GutiIdentity g)) h
+
+pub stmsi_identity : (octets : List ℕ) (s : Stmsi) → stmsi_in octets ≡ Some s → identity_in octets ≡ Some (StmsiIdentity s)
+stmsi_identity octets s h = is_stmsi octets (stmsi_kind octets (has_value h)) ∙ ap (map (λ s. StmsiIdentity s)) h
+
+pub other_identity : (octets : List ℕ) → is_other octets ≡ true → identity_in octets ≡ Some (Other octets)
+unfolding identity_in
+other_identity octets h = rw h refl

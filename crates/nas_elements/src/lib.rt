@@ -14,7 +14,7 @@ mod wrong;
 pub use crate::capability::Capability;
 pub use crate::guti::{Guti, Stmsi};
 pub use crate::identity::{Identity, IdentityRefusal};
-pub use crate::laws::capability_is_read_back;
+pub use crate::laws::{capability_is_read_back, guti_is_read_back, identity_is_read_back, stmsi_is_read_back, suci_is_read_back};
 pub use crate::other::OtherIdentity;
 pub use crate::suci::Suci;
 pub use crate::wrong::Wrong;
