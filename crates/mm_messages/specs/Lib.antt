@@ -1,7 +1,3 @@
-pub mod Capability
-pub mod Identity
 pub mod Messages
-pub mod Packed
 pub mod Parts
 pub mod Registration
-pub mod Suci

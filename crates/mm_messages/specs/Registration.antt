@@ -2,10 +2,10 @@
 use Rattle.std.specs.Prelude.{ℕ, ◌+◌, ◌%◌, List, [], ◌∷◌, ◌++◌, slice_index, ◌==◌, Option, None, Result, Ok, if◌then◌else◌}
 use Rattle.nas_base.specs.Reading.{Place, halves_at, lve_at, octets_at}
 use Rattle.nas_base.specs.Writing.{lve, optional_tlv}
-use Rattle.mm_messages.specs.Identity.{identity_in, identity_octets}
-use Rattle.mm_messages.specs.Packed.{two_halves}
+use Rattle.nas_elements.specs.Identity.{identity_in, identity_octets}
+use Rattle.nas_elements.specs.Packed.{two_halves}
 use Rattle.mm_messages.specs.Parts.{◌>>=◌, head, part, value}
-use Rattle.mm_messages.specs.declared.identity.Identity.{Identity}
+use Rattle.nas_elements.specs.declared.identity.Identity.{Identity}
 use Rattle.mm_messages.specs.declared.message.Mm.{Mm}
 use Rattle.mm_messages.specs.declared.message.Mm.TheVariants.{RegistrationRequest, RegistrationReject}
 use Rattle.mm_messages.specs.declared.message.MmRefusal.{MmRefusal}

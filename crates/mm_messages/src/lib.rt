@@ -4,13 +4,8 @@
 //! REGISTRATION REJECT.
 #![tactic(auto)]
 
-mod capability;
-mod identity;
 mod message;
-mod packed;
 mod registration;
 
-pub use crate::capability::Capability;
-pub use crate::identity::{Identity, Suci};
 pub use crate::message::{Mm, MmRefusal, decode_mm, encode_mm};
 pub use crate::registration::RegistrationType;

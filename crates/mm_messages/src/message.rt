@@ -5,8 +5,9 @@ ghost use Rattle.mm_messages.specs.Messages.{body_at, mm_in, spelling};
 ghost use Rattle.mm_messages.specs.Parts.{Decodes};
 
 use crate::registration::{self, REGISTRATION_REJECT, REGISTRATION_REQUEST};
-use crate::{Capability, Identity, RegistrationType};
+use crate::RegistrationType;
 use nas_base::{Full, Ksi, Reader, Writer};
+use nas_elements::{Capability, Identity};
 use std::alloc::Global;
 
 /// 5GMM's extended protocol discriminator (TS 24.501 clause 9.2).

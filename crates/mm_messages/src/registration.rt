@@ -1,14 +1,16 @@
 //! The messages of registration.
-ghost use Rattle.std.specs.Prelude.{◌≡◌, ◌≤◌, ◌++◌, length};
+ghost use Rattle.std.specs.Prelude.{◌≡◌, ◌<◌, ◌+◌, ◌*◌, ◌++◌, length};
+ghost use Rattle.byteorder.specs.Endian.{big_bytes};
 ghost use Rattle.nas_base.specs.Writing.{Writes, lve, optional_tlv};
 ghost use Rattle.mm_messages.specs.Parts.{Decodes};
+ghost use Rattle.nas_elements.specs.Identity.{identity_octets};
 ghost use Rattle.mm_messages.specs.Registration.{registration_reject, registration_reject_at, registration_request, registration_request_at, registration_type_code, registration_type_of};
 
-use crate::identity::IdentityRefusal;
 use crate::message::{EPD_5GMM, PLAIN};
-use crate::packed::two_halves;
-use crate::{Capability, Identity, Mm, MmRefusal};
+use crate::{Mm, MmRefusal};
+use byteorder::{BigEndian, ByteOrder};
 use nas_base::{Full, Ksi, Reader, Writer};
+use nas_elements::{Capability, Identity, IdentityRefusal};
 use std::alloc::Global;
 
 /// The message type of REGISTRATION REQUEST.
@@ -74,7 +76,7 @@ pub fn read_request(alloc: Global, reader: &mut Reader) -> Result<Mm, MmRefusal>
     })?;
     let identity = match Identity::read(alloc, octets) {
         Ok(identity) => identity,
-        Err(IdentityRefusal::Wrong) => return Err(MmRefusal::Mandatory { part: 2, at }),
+        Err(IdentityRefusal::Wrong { at: _ }) => return Err(MmRefusal::Mandatory { part: 2, at }),
         Err(IdentityRefusal::Memory) => return Err(MmRefusal::Memory),
     };
     Ok(Mm::RegistrationRequest {
@@ -102,38 +104,54 @@ pub fn write_request(
         REGISTRATION_REQUEST,
         two_halves(registration.code() + FOLLOW_ON, ksi.0),
     ];
-    match identity {
-        Identity::Suci(suci) => write_parts(&start, suci.octets().as_slice(), capability, out),
-        Identity::Other(octets) => write_parts(&start, octets.as_slice(), capability, out),
-    }
+    write_parts(&start, identity, capability, out)
 }
 
 // Writes the start, the identity and the capability, all or none.
 fn write_parts(
     start: &[u8],
-    identity: &[u8],
+    identity: &Identity,
     capability: &Option<Capability>,
     out: &mut Writer,
 ) -> Result<(), Full>
-    requires start { length start.now ≡ 4 }
-    requires identity { length identity.now ≤ 4100 }
-    ensures { Writes (start.now ++ (lve identity.now ++ optional_tlv 0x2e capability.now)) out.old out.new result }
+    requires { length start.now ≡ 4 }
+    ensures { Writes (start.now ++ (lve (identity_octets identity.now) ++ optional_tlv 0x2e capability.now)) out.old out.new result }
 {
+    let size = identity.size();
     match capability {
         None => {
-            out.fits(6 + identity.len())?;
+            out.fits(6 + size)?;
             out.put(start)?;
-            out.lve(identity)
+            out.put(&in_two_octets(size as u16))?;
+            identity.write(out)
         }
         Some(capability) => {
             let octets = capability.as_slice();
-            out.fits(8 + identity.len() + octets.len())?;
+            out.fits(8 + size + octets.len())?;
             out.put(start)?;
-            out.lve(identity)?;
+            out.put(&in_two_octets(size as u16))?;
+            identity.write(out)?;
             out.put(&[UE_SECURITY_CAPABILITY])?;
             out.lv(octets)
         }
     }
+}
+
+// A number, its high octet first.
+fn in_two_octets(number: u16) -> [u8; 2]
+    ensures { result ≡ big_bytes 2 number }
+{
+    let mut octets = [0; 2];
+    BigEndian::write_u16(&mut octets, number);
+    octets
+}
+
+// An octet of two halves.
+fn two_halves(low: u8, high: u8) -> u8
+    requires { low + 16 * high < 256 }
+    ensures { result ≡ low + 16 * high }
+{
+    low + 16 * high
 }
 
 /// Reads what stands behind the head of a REGISTRATION REJECT.

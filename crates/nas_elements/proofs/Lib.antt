@@ -2,6 +2,7 @@ pub mod Fronts
 pub mod GutiFronts
 pub mod IdentityFronts
 pub mod LayoutLaws
+pub mod Lengths
 pub mod PackedLaws
 pub mod ReadBack
 pub mod Sized

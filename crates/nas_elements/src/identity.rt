@@ -1,5 +1,5 @@
 //! The identity that a handset names itself by.
-ghost use Rattle.std.specs.Prelude.{◌≡◌, ◌<◌, true, false, length, slice_index};
+ghost use Rattle.std.specs.Prelude.{◌≡◌, ◌<◌, ◌≤◌, true, false, length, slice_index};
 ghost use Rattle.nas_base.specs.Writing.{Writes};
 ghost use Rattle.nas_elements.specs.Guti.{type_of_identity};
 ghost use Rattle.nas_elements.specs.Identity.{ReadsIdentity, identity_octets};
@@ -48,6 +48,19 @@ impl Identity {
             [IMSI_SUCI, ..] => read_suci(octets),
             [first, ..] if first % 8 == 2 => read_guti(octets),
             _ => read_stmsi(octets),
+        }
+    }
+
+    /// The number of its octets: 1 to 4,100.
+    pub fn size(&self) -> usize
+        ensures value { result ≡ length (identity_octets self.now) }
+        ensures limit { result ≤ 4100 }
+    {
+        match self {
+            Identity::Suci(suci) => suci.size(),
+            Identity::Guti(_) => 11,
+            Identity::Stmsi(_) => 7,
+            Identity::Other(other) => other.as_slice().len(),
         }
     }
 

@@ -66,6 +66,14 @@ impl Suci {
         out.put(self.octets().as_slice())
     }
 
+    /// The number of its octets: 9 to 13.
+    pub fn size(&self) -> usize
+        ensures value { result ≡ length (suci_octets self.now) }
+        ensures limit { result ≤ 13 }
+    {
+        self.octets().len()
+    }
+
     // Its octets.
     fn octets(&self) -> ArrayVec<u8, 13>
         ensures { result.items ≡ suci_octets self.now }

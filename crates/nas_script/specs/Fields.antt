@@ -8,7 +8,7 @@ use Rattle.toml.specs.Data.{Data}
 use Rattle.nas_base.specs.Digits.{digits_from}
 use Rattle.nas_base.specs.Plmn.{PlmnIdentity, plmn_of_digits}
 use Rattle.nas_base.specs.Supi.{is_of_plmn, supi_from}
-use Rattle.mm_messages.specs.Capability.{capability_from}
+use Rattle.nas_elements.specs.Capability.{capability_in}
 use Rattle.nas_script.specs.Document.{text_at}
 
 -- the values of ASCII digits
@@ -32,8 +32,8 @@ abbrev pub supi_in : PlmnIdentity → List ℕ → Option (List ℕ)
 supi_in plmn text = option_and_then (of_plmn plmn) (option_and_then supi_from (digits_in text))
 
 -- capability: 4 to 16 hex digits, two for each octet
-abbrev pub capability_in : List ℕ → Option (List ℕ)
-capability_in text = if nat_lt 16 (length text) then None else option_and_then capability_from (result_ok (decode_of text))
+abbrev pub hex_capability_in : List ℕ → Option (List ℕ)
+hex_capability_in text = if nat_lt 16 (length text) then None else option_and_then capability_in (result_ok (decode_of text))
 
 unfoldable pub plmn_at : Data → Option PlmnIdentity
 plmn_at network = option_and_then plmn_in (text_at (codes "plmn") network)
@@ -42,4 +42,4 @@ unfoldable pub supi_at : PlmnIdentity → Data → Option (List ℕ)
 supi_at plmn d = option_and_then (supi_in plmn) (text_at (codes "supi") d)
 
 unfoldable pub capability_at : Data → Option (List ℕ)
-capability_at handset = option_and_then capability_in (text_at (codes "capability") handset)
+capability_at handset = option_and_then hex_capability_in (text_at (codes "capability") handset)

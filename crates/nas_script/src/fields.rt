@@ -2,11 +2,11 @@
 ghost use Rattle.std.specs.Prelude.{◌≡◌, true, IfSome};
 ghost use Rattle.nas_base.specs.Supi.{is_of_plmn};
 ghost use Rattle.toml.specs.View.{view};
-ghost use Rattle.nas_script.specs.Fields.{capability_at, capability_in, digits_in, plmn_at, supi_at};
+ghost use Rattle.nas_script.specs.Fields.{capability_at, hex_capability_in, digits_in, plmn_at, supi_at};
 
 use crate::document::text_of;
 use arrayvec::ArrayVec;
-use mm_messages::Capability;
+use nas_elements::Capability;
 use nas_base::{Digits, Plmn, Supi};
 use toml::Value;
 
@@ -40,7 +40,7 @@ pub fn capability_of(handset: &Value) -> Option<Capability>
 
 // The capability of 4 to 16 hex digits.
 fn hex_capability(text: &[u8]) -> Option<Capability>
-    ensures { result ≡ capability_in text.now }
+    ensures { result ≡ hex_capability_in text.now }
 {
     let mut octets = [0; 8];
     if 16 < text.len() {

@@ -4,11 +4,12 @@ use Rattle.std.proofs.lemmas.Bool.Decides.{nat_tests}
 use Rattle.nas_base.specs.Digits.{are_digits}
 use Rattle.mm_messages.specs.Messages.{spelling}
 use Rattle.mm_messages.specs.Registration.{registration_reject, registration_request}
-use Rattle.mm_messages.proofs.SpellingLaws.{length-registration_request, length-suci_octets}
-use Rattle.mm_messages.specs.declared.identity.Identity.TheVariants.{Suci}
+use Rattle.nas_elements.proofs.Lengths.{length-suci_octets}
+use Rattle.mm_messages.proofs.SpellingLaws.{length-registration_request}
+use Rattle.nas_elements.specs.declared.identity.Identity.TheVariants.{Suci}
 use Rattle.mm_messages.specs.declared.message.Mm.TheVariants.{RegistrationReject}
 use Rattle.mm_messages.specs.declared.registration.RegistrationType.TheVariants.{Initial}
-use Rattle.mm_messages.specs.Suci.{SuciParts}
+use Rattle.nas_elements.specs.Suci.{SuciParts}
 
 pub request_fits : (s : SuciParts) (capability : List ℕ) → are_digits 9 10 s.msin ≡ true → length capability ≤ 8 →
     length (registration_request Initial 7 (Suci s) (Some capability)) ≤ 4096

@@ -4,8 +4,8 @@ use Rattle.nas_base.specs.Supi.{msin_of}
 use Rattle.nas_base.specs.declared.kind.Kind.{Kind}
 use Rattle.nas_base.specs.declared.kind.Kind.TheVariants as kinds
 use Rattle.mm_messages.specs.Messages.{mm_in, spelling}
-use Rattle.mm_messages.specs.Suci.{SuciParts}
-use Rattle.mm_messages.specs.declared.identity.Identity.TheVariants.{Suci}
+use Rattle.nas_elements.specs.Suci.{SuciParts}
+use Rattle.nas_elements.specs.declared.identity.Identity.TheVariants.{Suci}
 use Rattle.mm_messages.specs.declared.message.Mm.{Mm}
 use Rattle.mm_messages.specs.declared.message.Mm.TheVariants.{RegistrationRequest, RegistrationReject}
 use Rattle.mm_messages.specs.declared.message.MmRefusal.{MmRefusal}

@@ -1,6 +1,6 @@
 //! What a world is made of.
 
-use mm_messages::Capability;
+use nas_elements::Capability;
 use nas_base::{Memory, Plmn, Supi};
 use std::alloc::Global;
 use std::marker::Model;

@@ -4,8 +4,9 @@ ghost use Rattle.mm_messages.specs.Messages.{mm_in, spelling};
 ghost use Rattle.nas_world.specs.World.{is_rejection, request_of};
 
 use crate::HandsetConfig;
-use mm_messages::{Identity, Mm, MmRefusal, RegistrationType, Suci, decode_mm};
+use mm_messages::{Mm, MmRefusal, RegistrationType, decode_mm};
 use nas_base::{Digits, Ksi, Memory};
+use nas_elements::{Identity, Suci};
 use std::alloc::Global;
 
 // ngKSI 7: no key is available (TS 24.501 clause 9.11.3.32).
