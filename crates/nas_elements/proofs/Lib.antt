@@ -1,1 +1,2 @@
+pub mod OneOctet
 pub mod Sized

@@ -1,2 +1,6 @@
+pub mod Algs
+pub mod Asi
 pub mod Capability
 pub mod Reads
+pub mod TaiList
+pub mod Timer3
