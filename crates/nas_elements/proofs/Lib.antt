@@ -1,2 +1,3 @@
 pub mod OneOctet
 pub mod Sized
+pub mod StatusLemmas

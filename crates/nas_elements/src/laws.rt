@@ -3,10 +3,11 @@ ghost use Rattle.std.specs.Prelude.{◌≡◌, Some};
 ghost use Rattle.nas_elements.specs.Algs.{algs_in, algs_octets};
 ghost use Rattle.nas_elements.specs.Asi.{asi_in, asi_octets};
 ghost use Rattle.nas_elements.specs.Capability.{capability_in};
+ghost use Rattle.nas_elements.specs.Status.{status_in, status_octets};
 ghost use Rattle.nas_elements.specs.TaiList.{tai_list_in};
 ghost use Rattle.nas_elements.specs.Timer3.{timer3_in, timer3_octets};
 
-use crate::{Algs, Asi, Capability, TaiList, Timer3};
+use crate::{Algs, Asi, Capability, Status, TaiList, Timer3};
 
 /// A capability that is written is read back.
 pub fn capability_is_read_back(capability: &Capability)
@@ -39,4 +40,10 @@ pub fn timer3_is_read_back(timer: Timer3)
 /// So is additional security information.
 pub fn asi_is_read_back(information: Asi)
     ensures { asi_in (asi_octets information) ≡ Some information }
+{}
+
+/// So is a set of sessions.
+#[tactic(auto, using(crate::proofs::StatusLemmas::status_read_back))]
+pub fn status_is_read_back(status: Status)
+    ensures { status_in (status_octets status) ≡ Some status }
 {}
