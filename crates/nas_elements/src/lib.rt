@@ -7,6 +7,8 @@ mod capability;
 mod laws;
 mod status;
 mod tai_list;
+#[cfg(test)]
+mod tests;
 mod timer3;
 mod wrong;
 
