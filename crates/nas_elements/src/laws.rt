@@ -19,9 +19,7 @@ pub fn capability_is_read_back(capability: &Capability)
 /// So are algorithms.
 pub fn algs_are_read_back(algs: Algs)
     ensures { algs_in (algs_octets algs) ≡ Some algs }
-{
-    let _nea = algs.nea;
-}
+{}
 
 /// So is a tracking area identity list.
 pub fn tai_list_is_read_back(list: &TaiList)
@@ -33,9 +31,7 @@ pub fn tai_list_is_read_back(list: &TaiList)
 /// So is a timer.
 pub fn timer3_is_read_back(timer: Timer3)
     ensures { timer3_in (timer3_octets timer) ≡ Some timer }
-{
-    let _unit = timer.unit;
-}
+{}
 
 /// So is additional security information.
 pub fn asi_is_read_back(information: Asi)
