@@ -5,4 +5,5 @@ pub mod Plmn
 pub mod Reading
 pub mod Sinks
 pub mod Supi
+pub mod Values
 pub mod Writing

@@ -3,7 +3,9 @@ pub mod GutiFronts
 pub mod IdentityFronts
 pub mod LayoutLaws
 pub mod Lengths
+pub mod OneOctet
 pub mod PackedLaws
 pub mod ReadBack
 pub mod Sized
+pub mod StatusLemmas
 pub mod SuciFronts

@@ -1,3 +1,5 @@
+pub mod Algs
+pub mod Asi
 pub mod Capability
 pub mod Guti
 pub mod Identity
@@ -5,4 +7,7 @@ pub mod Layout
 pub mod Other
 pub mod Packed
 pub mod Reads
+pub mod Status
 pub mod Suci
+pub mod TaiList
+pub mod Timer3

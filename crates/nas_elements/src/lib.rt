@@ -1,6 +1,8 @@
 //! The information elements of 5GMM and 5GSM messages, each between octets and a value (TS 24.501 clause 9.11).
 #![tactic(auto)]
 
+mod algs;
+mod asi;
 mod capability;
 mod guti;
 mod identity;
@@ -8,13 +10,23 @@ mod laws;
 mod layout;
 mod other;
 mod packed;
+mod status;
 mod suci;
+mod tai_list;
+#[cfg(test)]
+mod tests;
+mod timer3;
 mod wrong;
 
+pub use crate::algs::Algs;
+pub use crate::asi::Asi;
 pub use crate::capability::Capability;
 pub use crate::guti::{Guti, Stmsi};
 pub use crate::identity::{Identity, IdentityRefusal};
-pub use crate::laws::{capability_is_read_back, guti_is_read_back, identity_is_read_back, stmsi_is_read_back, suci_is_read_back};
+pub use crate::laws::{algs_are_read_back, asi_is_read_back, capability_is_read_back, guti_is_read_back, identity_is_read_back, status_is_read_back, stmsi_is_read_back, suci_is_read_back, tai_list_is_read_back, timer3_is_read_back};
 pub use crate::other::OtherIdentity;
+pub use crate::status::Status;
 pub use crate::suci::Suci;
+pub use crate::tai_list::TaiList;
+pub use crate::timer3::Timer3;
 pub use crate::wrong::Wrong;

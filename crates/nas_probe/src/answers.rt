@@ -1,7 +1,7 @@
 //! Lines and their answers.
 
 use crate::words::Refusal;
-use crate::{aes_calls, key_calls, milenage_calls};
+use crate::{aes_calls, element_calls, key_calls, milenage_calls};
 use std::alloc::{AllocError, Global};
 
 /// The answer to a line.
@@ -27,6 +27,10 @@ fn called(alloc: Global, line: &[u8]) -> Result<String, Refusal> {
     };
     let words = words.as_slice();
     match aes_calls::answer(alloc, words) {
+        Err(Refusal::Unreadable) => (),
+        answer => return answer,
+    }
+    match element_calls::answer(alloc, words) {
         Err(Refusal::Unreadable) => (),
         answer => return answer,
     }

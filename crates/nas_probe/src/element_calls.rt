@@ -1,0 +1,61 @@
+//! The calls of nas_elements:
+//!
+//!     read_algs OCTETS
+//!     read_asi OCTETS
+//!     read_capability OCTETS
+//!     read_status OCTETS
+//!     read_tai_list OCTETS
+//!     read_timer3 OCTETS
+//!
+//! The answer is the octets that the value is written as, or `wrong` with the place as a decimal number where there is no value,
+//! or `full` where it has more octets than a writer has room for.
+
+use crate::words::{Refusal, octets, text};
+use nas_base::{Full, Writer};
+use nas_elements::{Algs, Asi, Capability, Status, TaiList, Timer3, Wrong};
+use std::alloc::Global;
+
+/// The answer to a call.
+pub fn answer(alloc: Global, words: &[&str]) -> Result<String, Refusal> {
+    let [call, input] = words else {
+        return Err(Refusal::Unreadable);
+    };
+    let given = octets(alloc, input)?;
+    let mut out = Writer::new();
+    let written = written(call, &given, &mut out)?;
+    told(alloc, written, &out)
+}
+
+// Reads the octets as the call has them, and writes the value.
+fn written(
+    call: &str,
+    given: &[u8],
+    out: &mut Writer,
+) -> Result<Result<Result<(), Full>, Wrong>, Refusal> {
+    Ok(match call {
+        "read_algs" => Algs::read(given).map(|value| value.write(out)),
+        "read_asi" => Asi::read(given).map(|value| value.write(out)),
+        "read_capability" => Capability::read(given).map(|value| value.write(out)),
+        "read_status" => Status::read(given).map(|value| value.write(out)),
+        "read_tai_list" => TaiList::read(given).map(|value| value.write(out)),
+        "read_timer3" => Timer3::read(given).map(|value| value.write(out)),
+        _ => return Err(Refusal::Unreadable),
+    })
+}
+
+// What came of a call, as words.
+fn told(
+    alloc: Global,
+    written: Result<Result<(), Full>, Wrong>,
+    out: &Writer,
+) -> Result<String, Refusal> {
+    let line = match written {
+        Ok(Ok(())) => return text(alloc, out.octets()),
+        Ok(Err(_)) => String::from_str(alloc, "full"),
+        Err(wrong) => {
+            let at = wrong.at;
+            format!(in alloc; "wrong {at}")
+        }
+    };
+    line.map_err(|_| Refusal::Memory)
+}
