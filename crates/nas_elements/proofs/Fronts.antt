@@ -1,13 +1,13 @@
 -- Where octets stop being the front of a value's octets, for values whose octets are told by a layout: the lines that a value
 -- has at least, and the lines that it may have behind them.
-use Rattle.std.proofs.Common.{◌≡◌, ◌<◌, ◌≤◌, ◌+◌, ◌&&◌, ℕ, Bool, true, false, zero, suc, nat_lt, if◌then◌else◌, List, [], ◌∷◌, ◌++◌, length, take, drop, map, Option, Some, None, is_some, arith, refl, subst}
+use Rattle.std.proofs.Common.{◌≡◌, ◌<◌, ◌≤◌, ◌+◌, ◌&&◌, ℕ, Bool, true, false, suc, nat_lt, if◌then◌else◌, List, [], ◌∷◌, ◌++◌, length, take, drop, map, Option, Some, is_some, arith, refl, subst}
 use Rattle.std.proofs.lemmas.Bool.Decides.{nat_tests}
 use Rattle.std.proofs.lemmas.Grind.{common_steps}
 use Rattle.nas_elements.specs.Layout.{meets, met}
 use Rattle.nas_elements.specs.Reads.{IsWrongAt, StartsAValue}
 use Rattle.nas_elements.specs.declared.layout.Line.{Line}
 use Rattle.nas_elements.specs.declared.layout.Line.TheVariants.{Any, Is, TypeOfIdentity, TwoDigits, DigitAndPerhapsAnother, RoutingEnd, MoreDigits}
-use Rattle.nas_elements.proofs.Sized.{nothing, starts_whole}
+use Rattle.nas_elements.proofs.Sized.{starts_whole}
 
 -- the octets meet their lines; lines may be left over, octets not
 abbrev pub front : ℕ → List ℕ → List Line → Bool

@@ -1,10 +1,9 @@
 -- Where octets stop being the front of a 5G-GUTI's, or of a 5G-S-TMSI's.
-use Rattle.std.proofs.Common.{◌≡◌, ◌≤◌, ◌+◌, ◌/◌, ◌%◌, ◌&&◌, ◌||◌, ◌==◌, ℕ, Bool, true, false, zero, suc, nat_le, List, [], ◌∷◌, ◌++◌, length, Option, Some, None, is_some, if◌then◌else◌, arith, refl, ◌∙◌}
+use Rattle.std.proofs.Common.{◌≡◌, ◌≤◌, ◌/◌, ◌%◌, ◌&&◌, ◌||◌, ◌==◌, ℕ, Bool, true, false, zero, suc, nat_le, List, [], ◌∷◌, ◌++◌, length, Option, Some, None, is_some, if◌then◌else◌, arith, refl, ◌∙◌}
 use Rattle.std.proofs.lemmas.Bool.Decides.{nat_tests}
-use Rattle.std.proofs.lemmas.Grind.{common_steps}
 use Rattle.nas_base.specs.Plmn.{is_plmn}
 use Rattle.nas_elements.specs.Guti.{guti_in, stmsi_in}
-use Rattle.nas_elements.specs.Layout.{digit, digit_or_filler, guti_layout, meets, met, one_or_two_digits, stmsi_layout}
+use Rattle.nas_elements.specs.Layout.{digit, guti_layout, met, one_or_two_digits, stmsi_layout}
 use Rattle.nas_elements.specs.Packed.{◌>>=◌, filler, plmn_in}
 use Rattle.nas_elements.specs.Reads.{IsWrongAt}
 use Rattle.nas_elements.specs.declared.layout.Line.{Line}

@@ -1,5 +1,5 @@
 -- Where octets stop being the front of an identity's.
-use Rattle.std.proofs.Common.{◌≡◌, ◌≤◌, ◌<◌, ◌+◌, ◌-◌, ◌%◌, ◌&&◌, ◌==◌, ℕ, Bool, true, false, zero, suc, min, max, nat_le, nat_lt, List, [], ◌∷◌, ◌++◌, length, take, drop, slice_index, Option, Some, None, is_some, if◌then◌else◌, arith, refl, sym, ap, ◌∙◌, subst}
+use Rattle.std.proofs.Common.{◌≡◌, ◌≤◌, ◌<◌, ◌+◌, ◌-◌, ◌%◌, ◌&&◌, ◌==◌, ℕ, Bool, true, false, min, max, nat_le, List, [], ◌∷◌, ◌++◌, length, take, drop, slice_index, Option, Some, None, is_some, if◌then◌else◌, arith, refl, sym, ap, ◌∙◌, subst}
 use Rattle.std.proofs.lemmas.Bool.Decides.{nat_tests}
 use Rattle.std.proofs.lemmas.Grind.{common_steps}
 use Rattle.std.proofs.Math.ListN.{replicate}
@@ -11,7 +11,6 @@ use Rattle.nas_elements.specs.Reads.{IsWrongAt, StartsAValue}
 use Rattle.nas_elements.specs.Suci.{SuciParts, is_null_scheme, suci_in}
 use Rattle.nas_elements.specs.declared.guti.Guti.{Guti}
 use Rattle.nas_elements.specs.declared.guti.Stmsi.{Stmsi}
-use Rattle.nas_elements.specs.declared.identity.Identity.{Identity}
 use Rattle.nas_elements.specs.declared.identity.Identity.TheVariants.{Suci, Guti as GutiIdentity, Stmsi as StmsiIdentity, Other}
 use Rattle.nas_elements.proofs.Fronts.{has_value}
 use Rattle.nas_elements.proofs.Sized.{nothing, starts_whole}

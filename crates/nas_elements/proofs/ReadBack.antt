@@ -1,7 +1,6 @@
 -- What is written is read back: numbers in octets, digits in octets, and the identities.
-use Rattle.std.proofs.Common.{◌≡◌, ◌≤◌, ◌<◌, ◌+◌, ◌-◌, ◌*◌, ◌/◌, ◌%◌, ◌^◌, ◌&&◌, ◌==◌, ℕ, Bool, true, false, zero, suc, List, [], ◌∷◌, ◌++◌, length, slice_index, take, drop, Option, Some, None, if◌then◌else◌, arith, refl, sym, ap, ◌∙◌, subst}
+use Rattle.std.proofs.Common.{◌≡◌, ◌≤◌, ◌<◌, ◌/◌, ◌%◌, ◌^◌, ◌==◌, ℕ, true, false, List, [], ◌∷◌, ◌++◌, slice_index, Some, arith, refl, ap, ◌∙◌}
 use Rattle.std.proofs.lemmas.Bool.Decides.{nat_tests}
-use Rattle.std.proofs.lemmas.Grind.{common_steps}
 use Rattle.byteorder.specs.Endian.{big_bytes}
 use Rattle.byteorder.specs.Numbers.{big_number-reads_back}
 use Rattle.nas_base.specs.Digits.{all_digits, are_digits, digits_between}
@@ -9,8 +8,8 @@ use Rattle.nas_base.specs.Plmn.{PlmnIdentity, is_plmn}
 use Rattle.nas_elements.specs.Guti.{guti_in, guti_octets, stmsi_in, stmsi_octets}
 use Rattle.nas_elements.specs.declared.guti.Guti.{Guti}
 use Rattle.nas_elements.specs.declared.guti.Stmsi.{Stmsi}
-use Rattle.nas_elements.specs.Packed.{◌>>=◌, filler, halves_of, packed, plmn_in, plmn_octets, third_digit, two_halves, unfilled}
-use Rattle.nas_elements.specs.Suci.{SuciParts, is_suci, msin_in, routing_in, routing_octets, suci_in, suci_octets}
+use Rattle.nas_elements.specs.Packed.{filler, halves_of, packed, plmn_in, plmn_octets, third_digit, two_halves, unfilled}
+use Rattle.nas_elements.specs.Suci.{is_suci, msin_in, routing_in, routing_octets, suci_in, suci_octets}
 use Rattle.nas_elements.proofs.SuciFronts.{begins, filled, kept, unfilled_more}
 
 pub low : (a b : ℕ) → a < 16 → two_halves a b % 16 ≡ a

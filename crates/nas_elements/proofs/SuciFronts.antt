@@ -1,12 +1,12 @@
 -- Where octets stop being the front of a SUCI's.
-use Rattle.std.proofs.Common.{◌≡◌, ◌≤◌, ◌<◌, ◌+◌, ◌-◌, ◌/◌, ◌%◌, ◌&&◌, ◌||◌, ◌==◌, ℕ, Bool, true, false, zero, suc, nat_le, nat_lt, List, [], ◌∷◌, ◌++◌, length, take, slice_index, Option, Some, None, is_some, if◌then◌else◌, arith, refl, sym, ◌∙◌}
+use Rattle.std.proofs.Common.{◌≡◌, ◌≤◌, ◌<◌, ◌/◌, ◌%◌, ◌&&◌, ◌==◌, ℕ, Bool, true, false, zero, suc, nat_le, List, [], ◌∷◌, ◌++◌, length, take, Option, Some, None, is_some, if◌then◌else◌, arith, refl, sym, ◌∙◌}
 use Rattle.std.proofs.lemmas.Bool.Decides.{nat_tests}
 use Rattle.std.proofs.lemmas.Grind.{common_steps}
 use Rattle.nas_base.specs.Digits.{all_digits, are_digits, digits_between}
-use Rattle.nas_elements.specs.Layout.{digit, digit_or_filler, meets, met, one_or_two_digits, suci_layout}
+use Rattle.nas_elements.specs.Layout.{digit, meets, met, one_or_two_digits, suci_layout}
 use Rattle.nas_elements.specs.Packed.{◌>>=◌, filler, halves_of, plmn_in, unfilled}
 use Rattle.nas_elements.specs.Reads.{IsWrongAt}
-use Rattle.nas_elements.specs.Suci.{SuciParts, is_null_scheme, msin_in, routing_in, suci_in}
+use Rattle.nas_elements.specs.Suci.{is_null_scheme, msin_in, routing_in, suci_in}
 use Rattle.nas_elements.specs.declared.layout.Line.{Line}
 use Rattle.nas_elements.specs.declared.layout.Line.TheVariants.{DigitAndPerhapsAnother, MoreDigits, RoutingEnd}
 use Rattle.nas_elements.proofs.Fronts.{front, wrong_front}

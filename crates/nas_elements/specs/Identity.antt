@@ -1,9 +1,9 @@
 -- The 5GS mobile identity (TS 24.501 clause 9.11.3.4).
-use Rattle.std.specs.Prelude.{◌≡◌, ℕ, Bool, not, List, length, slice_index, nat_lt, nat_le, ◌==◌, ◌&&◌, Option, Some, None, Result, Ok, Err, if◌then◌else◌}
+use Rattle.std.specs.Prelude.{◌≡◌, ℕ, List, slice_index, ◌==◌, Option, Some, None, Result, Ok, Err, if◌then◌else◌}
 use Rattle.nas_elements.specs.Guti.{guti_in, guti_octets, stmsi_in, stmsi_octets, type_of_identity}
 use Rattle.nas_elements.specs.Reads.{IsWrongAt}
 use Rattle.nas_elements.specs.Other.{is_other}
-use Rattle.nas_elements.specs.Suci.{SuciParts, suci_in, suci_octets}
+use Rattle.nas_elements.specs.Suci.{suci_in, suci_octets}
 use Rattle.nas_elements.specs.declared.identity.Identity.{Identity}
 use Rattle.nas_elements.specs.declared.identity.Identity.TheVariants.{Suci, Guti, Stmsi, Other}
 use Rattle.nas_elements.specs.declared.identity.IdentityRefusal.{IdentityRefusal}

@@ -1,5 +1,5 @@
 -- Values whose octets are told one by one: a line for each octet says what may stand there.
-use Rattle.std.specs.Prelude.{ℕ, Bool, true, suc, ◌%◌, ◌/◌, List, [], ◌∷◌, nat_lt, ◌==◌, ◌&&◌, ◌||◌, not, if◌then◌else◌}
+use Rattle.std.specs.Prelude.{ℕ, Bool, true, suc, ◌%◌, ◌/◌, List, [], ◌∷◌, nat_lt, ◌==◌, ◌&&◌, ◌||◌, if◌then◌else◌}
 use Rattle.nas_elements.specs.Packed.{filler}
 use Rattle.nas_elements.specs.declared.layout.Line.{Line}
 use Rattle.nas_elements.specs.declared.layout.Line.TheVariants.{Any, Is, TypeOfIdentity, TwoDigits, DigitAndPerhapsAnother, RoutingEnd, MoreDigits}

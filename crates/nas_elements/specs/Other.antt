@@ -1,5 +1,5 @@
 -- Identities that are kept as their octets (TS 24.501 clause 9.11.3.4).
-use Rattle.std.specs.Prelude.{Bool, ℕ, ◌%◌, not, List, length, slice_index, nat_lt, nat_le, ◌==◌, ◌&&◌, if◌then◌else◌}
+use Rattle.std.specs.Prelude.{Bool, ℕ, not, List, length, slice_index, nat_le, ◌==◌, ◌&&◌, if◌then◌else◌}
 use Rattle.nas_elements.specs.Guti.{type_of_identity}
 
 -- Behind a first octet 01 (an IMSI's SUCI) the scheme in octet 7 isn't the null scheme. Another first octet tells another
