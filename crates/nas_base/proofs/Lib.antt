@@ -1,2 +1,3 @@
 pub mod DigitsLemmas
+pub mod KindLaws
 pub mod SinkLaws

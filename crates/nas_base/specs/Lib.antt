@@ -1,8 +1,10 @@
 pub mod Digits
+pub mod Kinds
 pub mod Octets
 pub mod Outside
 pub mod Plmn
 pub mod Reading
 pub mod Sinks
 pub mod Supi
+pub mod Values
 pub mod Writing

@@ -2,30 +2,41 @@
 //! the 5GS Non-Access Stratum, and the sink that all output goes to.
 #![tactic(auto)]
 
-mod cause;
 mod count;
 mod digits;
 mod kind;
 mod ksi;
+mod laws;
 mod memory;
+pub mod mm_cause;
+mod mm_kind;
+mod moment;
 mod octets;
 mod outside;
 mod plmn;
 mod reader;
+mod session;
 mod sinks;
+pub mod sm_cause;
+mod sm_kind;
 mod supi;
 mod writer;
 
-pub use crate::cause::ILLEGAL_UE;
 pub use crate::count::{Count, Dir};
 pub use crate::digits::Digits;
 pub use crate::kind::Kind;
 pub use crate::ksi::Ksi;
+pub use crate::laws::kinds_have_types;
 pub use crate::memory::Memory;
+pub use crate::mm_cause::ILLEGAL_UE;
+pub use crate::mm_kind::MmKind;
+pub use crate::moment::Moment;
 pub use crate::octets::{Octets, Octets1M, OctetsRefusal};
 pub use crate::outside::{Sink, WriteRefusal};
 pub use crate::plmn::Plmn;
 pub use crate::reader::{Reader, Short};
+pub use crate::session::{Psi, Pti};
 pub use crate::sinks::{FaultySink, MemorySink};
+pub use crate::sm_kind::SmKind;
 pub use crate::supi::Supi;
 pub use crate::writer::{Full, Writer};
