@@ -1,3 +1,4 @@
 pub mod DigitsLemmas
 pub mod KindLaws
 pub mod SinkLaws
+pub mod WalkLaws

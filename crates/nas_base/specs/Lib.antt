@@ -7,4 +7,5 @@ pub mod Reading
 pub mod Sinks
 pub mod Supi
 pub mod Values
+pub mod Walking
 pub mod Writing

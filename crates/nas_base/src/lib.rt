@@ -4,6 +4,7 @@
 
 mod count;
 mod digits;
+mod elements;
 mod kind;
 mod ksi;
 mod laws;
@@ -16,6 +17,7 @@ mod outside;
 mod plmn;
 mod reader;
 mod session;
+mod shape;
 mod sinks;
 pub mod sm_cause;
 mod sm_kind;
@@ -24,6 +26,7 @@ mod writer;
 
 pub use crate::count::{Count, Dir};
 pub use crate::digits::Digits;
+pub use crate::elements::{Elements, walk};
 pub use crate::kind::Kind;
 pub use crate::ksi::Ksi;
 pub use crate::laws::kinds_have_types;
@@ -36,6 +39,7 @@ pub use crate::outside::{Sink, WriteRefusal};
 pub use crate::plmn::Plmn;
 pub use crate::reader::{Reader, Short};
 pub use crate::session::{Psi, Pti};
+pub use crate::shape::{Form, Row, Shape};
 pub use crate::sinks::{FaultySink, MemorySink};
 pub use crate::sm_kind::SmKind;
 pub use crate::supi::Supi;
