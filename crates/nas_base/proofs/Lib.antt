@@ -1,4 +1,5 @@
 pub mod DigitsLemmas
+pub mod FirstsLaws
 pub mod KindLaws
 pub mod SinkLaws
 pub mod WalkLaws

@@ -7,5 +7,6 @@ pub mod Reading
 pub mod Sinks
 pub mod Supi
 pub mod Values
+pub mod WalkLaws
 pub mod Walking
 pub mod Writing
