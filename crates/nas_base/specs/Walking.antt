@@ -15,6 +15,9 @@ is_row iei (Fixed n) = nat_le 1 n
 is_row iei Tlv = true
 is_row iei Tlve = true
 
+abbrev pub shape_from : List RowParts → Option (List RowParts)
+shape_from rows = if nat_le (length rows) 32 then Some rows else None
+
 -- the form of an identifier: that of the first of its rows
 abbrev pub form_of : List RowParts → ℕ → Option Form
 form_of [] iei = None

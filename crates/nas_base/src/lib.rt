@@ -44,3 +44,6 @@ pub use crate::sinks::{FaultySink, MemorySink};
 pub use crate::sm_kind::SmKind;
 pub use crate::supi::Supi;
 pub use crate::writer::{Full, Writer};
+
+#[cfg(test)]
+mod tests;

@@ -1,6 +1,6 @@
 //! What elements may stand behind the mandatory parts of a message.
 ghost use Rattle.std.specs.Prelude.{◌≡◌};
-ghost use Rattle.nas_base.specs.Walking.{form_of};
+ghost use Rattle.nas_base.specs.Walking.{form_of, shape_from};
 
 use arrayvec::ArrayVec;
 use std::marker::Model;
@@ -55,6 +55,17 @@ impl Model for Shape {
 }
 
 impl Shape {
+    /// The shape of these rows, or None exactly above 32.
+    pub fn from_slice(rows: &[Row]) -> Option<Shape>
+        ensures { result ≡ shape_from rows.now }
+    {
+        let mut items = ArrayVec::new();
+        match items.try_extend_from_slice(rows) {
+            Ok(()) => Some(Shape { items }),
+            Err(_) => None,
+        }
+    }
+
     /// The form of an identifier, or None exactly where no row has it.
     pub fn form_of(&self, iei: u8) -> Option<Form>
         ensures { result ≡ form_of self.now iei }
