@@ -3,3 +3,4 @@ pub mod FirstsLaws
 pub mod KindLaws
 pub mod SinkLaws
 pub mod WalkLaws
+pub mod WrittenLaws

@@ -29,7 +29,7 @@ pub use crate::digits::Digits;
 pub use crate::elements::{Elements, walk};
 pub use crate::kind::Kind;
 pub use crate::ksi::Ksi;
-pub use crate::laws::{firsts_are_kept, kinds_have_types};
+pub use crate::laws::{firsts_are_kept, kinds_have_types, written_are_read};
 pub use crate::memory::Memory;
 pub use crate::mm_cause::ILLEGAL_UE;
 pub use crate::mm_kind::MmKind;
