@@ -1,10 +1,10 @@
 -- The places of a shape's rows keep the first element of each.
-use Rattle.std.proofs.Common.{◌≡◌, ◌∙◌, ℕ, zero, suc, ◌+◌, ◌-◌, ◌<◌, ◌==◌, ◌&&◌, Bool, true, false, List, [], ◌∷◌, ◌++◌, length, Option, Some, None, map, is_some, is_none, arith, refl, ap, sym}
+use Rattle.std.proofs.Common.{◌≡◌, ◌∙◌, ℕ, zero, suc, ◌+◌, ◌-◌, ◌<◌, ◌==◌, Bool, true, false, List, [], ◌∷◌, length, Option, Some, None, map, arith, refl, ap, sym}
 use Rattle.std.proofs.lemmas.Bool.Decides.{nat_tests}
 use Rattle.std.proofs.lemmas.Grind.{common_steps}
 use Rattle.std.proofs.lemmas.List.{length-map}
 use Rattle.std.specs.List.{refill}
-use Rattle.nas_base.specs.Walking.{RowParts, Element, Head, SlotParts, all_noted, elements_within, firsts, form_of, head_of, headed, kept, noted, taken, vacant, value_of}
+use Rattle.nas_base.specs.Walking.{RowParts, Element, Head, SlotParts, all_noted, elements_within, firsts, head_of, headed, kept, noted, taken, vacant, value_of}
 
 -- one place, after all elements
 abbrev pub noted_in : SlotParts → List Element → SlotParts

@@ -1,5 +1,5 @@
 -- Elements are read where they were written.
-use Rattle.std.proofs.Common.{◌≡◌, ◌∙◌, ℕ, zero, suc, ◌+◌, ◌-◌, ◌*◌, ◌^◌, ◌<◌, ◌≤◌, ◌==◌, ◌&&◌, nat_lt, nat_le, Bool, true, false, cond, List, [], ◌∷◌, ◌++◌, length, take, drop, ◌/◌, ◌%◌, Option, Some, None, arith, refl, ap, sym}
+use Rattle.std.proofs.Common.{◌≡◌, ◌∙◌, ℕ, zero, suc, ◌+◌, ◌*◌, ◌^◌, ◌<◌, ◌≤◌, ◌==◌, nat_lt, nat_le, Bool, true, false, cond, List, [], ◌∷◌, ◌++◌, length, take, drop, ◌/◌, ◌%◌, Option, Some, None, arith, refl, ap, sym}
 use Rattle.std.proofs.lemmas.Bool.Decides.{nat_tests}
 use Rattle.std.proofs.lemmas.Grind.{common_steps}
 use Rattle.std.proofs.lemmas.List.{length-append}
@@ -9,7 +9,6 @@ use Rattle.nas_base.specs.declared.shape.Form.TheVariants.{Half, Fixed, Tlv, Tlv
 use Rattle.nas_base.specs.Walking.{RowParts, Element, Head, cut, elements_in, elements_within, form_in, form_of, form_or, head_as, head_of, headed, identifier_in, is_row, size_of, start_of, unknown_form}
 use Rattle.nas_base.specs.WalkLaws.{AreRows, WrittenAreRead}
 use Rattle.nas_base.specs.Writing.{lve, tlv}
-use Rattle.nas_base.proofs.WalkLaws.{within_more}
 
 -- no element is empty
 sized_row : (iei : ℕ) (form : Form) (octets : List ℕ) → is_row iei form ≡ true → 1 ≤ size_of form octets
@@ -78,8 +77,8 @@ step shape [] rows = refl
 step shape (o ∷ os) rows =
     headed_same (elements_within (length os) shape) (elements_in shape) (head_of shape (o ∷ os))
     (λ h e.
-      let less : length h.behind < length (o ∷ os) = shorter shape (o ∷ os) h rows e in
-      enough (length os) (length h.behind) shape h.behind rows (omega arith) (omega arith))
+    let less : length h.behind < length (o ∷ os) = shorter shape (o ∷ os) h rows e in
+    enough (length os) (length h.behind) shape h.behind rows (omega arith) (omega arith))
 
 read : (shape : List RowParts) (octets : List ℕ) (h : Head) → AreRows shape → head_of shape octets ≡ Some h →
     elements_in shape octets ≡ record { iei = h.iei; value = h.value } ∷ elements_in shape h.behind

@@ -1,7 +1,7 @@
 -- What a walk over elements keeps.
-use Rattle.std.specs.Prelude.{◌≡◌, ◌<◌, ◌≤◌, ℕ, ◌+◌, ◌^◌, true, List, [], ◌∷◌, ◌++◌, length, None, is_some}
+use Rattle.std.specs.Prelude.{◌≡◌, ◌<◌, ℕ, ◌+◌, ◌^◌, true, List, [], ◌∷◌, ◌++◌, length, None, is_some}
 use Rattle.std.specs.List.{list_all}
-use Rattle.nas_base.specs.Walking.{Element, Head, RowParts, elements_in, firsts, form_in, form_of, head_of, headed, identifier_in, is_row, value_of}
+use Rattle.nas_base.specs.Walking.{Element, RowParts, elements_in, firsts, form_in, form_of, head_of, headed, identifier_in, is_row, value_of}
 use Rattle.nas_base.specs.Writing.{lve, tlv}
 use Rattle.nas_base.specs.declared.shape.Form.TheVariants.{Half, Fixed, Tlv, Tlve}
 

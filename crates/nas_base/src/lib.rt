@@ -1,5 +1,5 @@
-//! What every other crate of the workspace stands on: octets, a reader and a writer over them, the small values of
-//! the 5GS Non-Access Stratum, and the sink that all output goes to.
+//! What every other crate of the workspace stands on: octets, a reader and a writer over them, the walk over a message's
+//! elements, the small values of the 5GS Non-Access Stratum, and the sink that all output goes to.
 #![tactic(auto)]
 
 mod count;
