@@ -4,7 +4,8 @@ use Rattle.std.proofs.lemmas.Bool.Decides.{nat_tests}
 use Rattle.std.proofs.lemmas.Grind.{common_steps}
 use Rattle.std.proofs.lemmas.List.{length-map}
 use Rattle.std.specs.List.{refill}
-use Rattle.nas_base.specs.Walking.{RowParts, Element, Head, SlotParts, all_noted, elements_within, firsts, head_of, headed, kept, noted, taken, vacant, value_of}
+use Rattle.nas_base.specs.Slots.{SlotParts, all_noted, noted, taken, vacant}
+use Rattle.nas_base.specs.Walking.{RowParts, Element, Head, elements_within, firsts, head_of, headed, kept, value_of}
 
 -- one place, after all elements
 abbrev pub noted_in : SlotParts → List Element → SlotParts

@@ -5,6 +5,7 @@ pub mod Outside
 pub mod Plmn
 pub mod Reading
 pub mod Sinks
+pub mod Slots
 pub mod Supi
 pub mod Values
 pub mod WalkLaws

@@ -5,6 +5,7 @@
 mod count;
 mod digits;
 mod elements;
+mod head;
 mod kind;
 mod ksi;
 mod laws;

@@ -67,7 +67,7 @@ impl Shape {
     }
 
     /// The form of an identifier, or None exactly where no row has it.
-    pub fn form_of(&self, iei: u8) -> Option<Form>
+    pub(crate) fn form_of(&self, iei: u8) -> Option<Form>
         ensures { result ≡ form_of self.now iei }
     {
         for row in self.items.as_slice() {

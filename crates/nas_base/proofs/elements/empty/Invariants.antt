@@ -1,5 +1,5 @@
 use Rattle.std.proofs.Common.{◌≡◌, ◌++◌, drop, length}
-use Rattle.nas_base.specs.Walking.{vacant}
+use Rattle.nas_base.specs.Slots.{vacant}
 use Rattle.nas_base.proofs.elements.empty.Given as goal
 
 -- the places so far and those of the rows that are left are those of all

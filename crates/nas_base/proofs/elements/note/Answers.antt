@@ -1,7 +1,7 @@
 use Rattle.std.proofs.Common.{◌∙◌, ap, sym}
 use Rattle.std.proofs.Math.ListN.{set}
 use Rattle.std.proofs.lemmas.List.Edits.{map_over_more}
-use Rattle.nas_base.specs.Walking.{noted}
+use Rattle.nas_base.specs.Slots.{noted}
 use Rattle.nas_base.proofs.elements.note.Goals as goal
 
 pub loop-slot-preserved : goal.loop-slot-preserved

@@ -1,5 +1,5 @@
 use Rattle.std.proofs.Common.{◌≡◌, ◌++◌, map, take, drop}
-use Rattle.nas_base.specs.Walking.{noted}
+use Rattle.nas_base.specs.Slots.{noted}
 use Rattle.nas_base.proofs.elements.note.Given as goal
 
 -- each place so far was noted in

@@ -1,5 +1,6 @@
 use Rattle.std.proofs.Common.{◌∙◌, List, length, map, Some, ap}
-use Rattle.nas_base.specs.Walking.{Head, SlotParts, noted}
+use Rattle.nas_base.specs.Slots.{SlotParts, noted}
+use Rattle.nas_base.specs.Walking.{Head}
 use Rattle.nas_base.proofs.WalkLaws.{all_noted_more}
 use Rattle.nas_base.proofs.elements.pass.Goals as goal
 

@@ -1,5 +1,6 @@
 use Rattle.std.proofs.Common.{◌≡◌, ◌-◌, length}
-use Rattle.nas_base.specs.Walking.{all_noted, elements_in, elements_within, vacant}
+use Rattle.nas_base.specs.Slots.{all_noted, vacant}
+use Rattle.nas_base.specs.Walking.{elements_in, elements_within}
 use Rattle.nas_base.proofs.elements.pass.Given as goal
 
 -- what is left to be found, noted in the places so far, is the whole

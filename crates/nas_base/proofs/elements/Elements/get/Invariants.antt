@@ -1,5 +1,6 @@
 use Rattle.std.proofs.Common.{◌≡◌, drop}
-use Rattle.nas_base.specs.Walking.{taken, value_of}
+use Rattle.nas_base.specs.Slots.{taken}
+use Rattle.nas_base.specs.Walking.{value_of}
 use Rattle.nas_base.proofs.elements.Elements.get.Given as goal
 
 -- the places that are left have the value, if any has
