@@ -10,8 +10,8 @@ all_digits ds = list_all (λ d. nat_lt d 10) ds
 abbrev pub are_digits : ℕ → ℕ → List ℕ → Bool
 are_digits low high ds = nat_le low (length ds) && nat_le (length ds) high && all_digits ds
 
-abbrev pub digits_between : ℕ → ℕ → List ℕ → Option (List ℕ)
-digits_between low high ds = if are_digits low high ds then Some ds else None
-
 abbrev pub digits_from : List ℕ → Option (List ℕ)
-digits_from ds = digits_between 1 15 ds
+digits_from ds = if are_digits 1 15 ds then Some ds else None
+
+abbrev pub digits_between : ℕ → ℕ → List ℕ → Option (List ℕ)
+digits_between low high ds = if are_digits low high ds then digits_from ds else None

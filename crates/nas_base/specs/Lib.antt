@@ -1,9 +1,13 @@
 pub mod Digits
+pub mod Kinds
 pub mod Octets
 pub mod Outside
 pub mod Plmn
 pub mod Reading
 pub mod Sinks
+pub mod Slots
 pub mod Supi
 pub mod Values
+pub mod WalkLaws
+pub mod Walking
 pub mod Writing

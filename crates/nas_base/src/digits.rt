@@ -1,5 +1,5 @@
 //! Decimal digits.
-ghost use Rattle.std.specs.Prelude.{◌≡◌, ◌≤◌, ◌<◌, length, drop, true};
+ghost use Rattle.std.specs.Prelude.{◌≡◌, true};
 ghost use Rattle.nas_base.specs.Digits.{all_digits, are_digits, digits_between, digits_from};
 
 use arrayvec::ArrayVec;
@@ -39,26 +39,15 @@ impl Digits {
         }
     }
 
-    /// These digits, or None exactly where there are fewer than `low` or more than `high`, or one of them is above 9.
+    /// These digits, or None exactly where there are fewer than `low` or more than `high`, or they are none that
+    /// `from_slice` takes.
     pub fn between(low: usize, high: usize, digits: &[u8]) -> Option<Digits>
-        requires some { 1 ≤ low }
-        requires limit { high ≤ 15 }
         ensures { result ≡ digits_between low high digits.now }
     {
         if digits.len() < low || high < digits.len() {
             return None;
         }
         Digits::from_slice(digits)
-    }
-
-    /// The digits behind the first `count`.
-    #[tactic(auto, using(crate::proofs::DigitsLemmas::digits_behind))]
-    pub fn behind(&self, count: usize) -> Digits
-        requires { count < length self.now }
-        ensures { result ≡ drop count self.now }
-    {
-        let (_, digits) = self.as_slice().split_at(count);
-        Digits::from_slice(digits).unwrap()
     }
 
     /// An equal value.

@@ -1,5 +1,5 @@
 //! The identity of a subscriber.
-ghost use Rattle.std.specs.Prelude.{◌≡◌, true};
+ghost use Rattle.std.specs.Prelude.{◌≡◌, ◌<◌, length, drop, true};
 ghost use Rattle.nas_base.specs.Digits.{are_digits};
 ghost use Rattle.nas_base.specs.Supi.{is_of_plmn, msin_of, supi_from};
 
@@ -60,6 +60,16 @@ impl Supi {
         ensures digits { are_digits 9 10 result ≡ true }
     {
         let _ = &plmn.mcc;
-        self.0.behind(plmn.digits().as_slice().len())
+        behind(&self.0, plmn.digits().as_slice().len())
     }
+}
+
+// The digits behind the first `count`.
+#[tactic(auto, using(crate::proofs::DigitsLemmas::digits_behind))]
+fn behind(digits: &Digits, count: usize) -> Digits
+    requires { count < length digits.now }
+    ensures { result ≡ drop count digits.now }
+{
+    let (_, rest) = digits.as_slice().split_at(count);
+    Digits::from_slice(rest).unwrap()
 }
