@@ -1,5 +1,5 @@
 -- Values whose octets are any octets, of certain numbers: octets stop being the front of one at the greatest number.
-use Rattle.std.proofs.Common.{◌≡◌, ◌<◌, ◌≤◌, ◌+◌, ◌-◌, ℕ, true, false, List, ◌++◌, length, take, min, Option, Some, None, is_some, arith, refl}
+use Rattle.std.proofs.Common.{◌≡◌, ◌<◌, ◌+◌, ◌-◌, ℕ, true, false, List, ◌++◌, length, take, min, Option, Some, None, is_some, arith, refl}
 use Rattle.std.proofs.Math.ListN.{replicate}
 use Rattle.std.proofs.lemmas.Bool.Decides.{nat_tests}
 use Rattle.std.proofs.lemmas.Grind.{common_steps}
@@ -25,9 +25,9 @@ pub wrong_number : {A : Type 0} (reading : List ℕ → Option A) (high : ℕ) (
 wrong_number reading high octets full most = record {
   within = omega arith;
   before = starts_whole reading (take (min (length octets) high) octets) (replicate (high - min (length octets) high) 0)
-    (full (take (min (length octets) high) octets ++ replicate (high - min (length octets) high) 0) (grind (arith, common_steps, length-replicate)));
+      (full (take (min (length octets) high) octets ++ replicate (high - min (length octets) high) 0) (grind (arith, common_steps, length-replicate)));
   here = λ more starts. nothing starts.whole
-    (most (take (min (length octets) high + 1) octets ++ starts.rest) (grind (arith, common_steps)));
+      (most (take (min (length octets) high + 1) octets ++ starts.rest) (grind (arith, common_steps)));
 }
 
 pub wrong_capability : (octets : List ℕ) → IsWrongAt capability_in octets (min (length octets) 8)

@@ -1,2 +1,3 @@
 pub mod Capability
 pub mod Reads
+pub mod Slice

@@ -3,8 +3,10 @@
 
 mod capability;
 mod laws;
+mod slice;
 mod wrong;
 
 pub use crate::capability::Capability;
-pub use crate::laws::capability_is_read_back;
+pub use crate::laws::{capability_is_read_back, slice_is_read_back};
+pub use crate::slice::Slice;
 pub use crate::wrong::Wrong;
