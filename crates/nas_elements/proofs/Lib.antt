@@ -1,2 +1,4 @@
+pub mod DnnLaws
+pub mod Fronts
 pub mod Sized
 pub mod SliceLaws

@@ -1,3 +1,4 @@
 pub mod Capability
+pub mod Dnn
 pub mod Reads
 pub mod Slice

@@ -1,15 +1,23 @@
 //! What holds of every value. These functions do nothing: their contracts are the laws.
 ghost use Rattle.std.specs.Prelude.{◌≡◌, length, Some};
 ghost use Rattle.nas_elements.specs.Capability.{capability_in};
+ghost use Rattle.nas_elements.specs.Dnn.{dnn_in};
 ghost use Rattle.nas_elements.specs.Slice.{slice_in, slice_octets};
 
-use crate::{Capability, Slice};
+use crate::{Capability, Dnn, Slice};
 
 /// A capability that is written is read back.
 pub fn capability_is_read_back(capability: &Capability)
     ensures { capability_in capability.now ≡ Some capability.now }
 {
     let _items = &capability.items;
+}
+
+/// A DNN that is written is read back.
+pub fn dnn_is_read_back(dnn: &Dnn)
+    ensures { dnn_in dnn.now ≡ Some dnn.now }
+{
+    let _items = &dnn.items;
 }
 
 /// A slice that is written is read back.

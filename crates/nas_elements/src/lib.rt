@@ -2,11 +2,13 @@
 #![tactic(auto)]
 
 mod capability;
+mod dnn;
 mod laws;
 mod slice;
 mod wrong;
 
 pub use crate::capability::Capability;
-pub use crate::laws::{capability_is_read_back, slice_is_read_back};
+pub use crate::dnn::Dnn;
+pub use crate::laws::{capability_is_read_back, dnn_is_read_back, slice_is_read_back};
 pub use crate::slice::Slice;
 pub use crate::wrong::Wrong;
