@@ -1,24 +1,19 @@
 -- Where octets stop being the front of a DNN's.
-use Rattle.std.proofs.Common.{◌≡◌, ◌<◌, ◌≤◌, ◌+◌, ◌-◌, ℕ, zero, suc, Bool, true, false, List, [], ◌∷◌, ◌++◌, length, take, drop, get_or, drop-cons, length-drop, min, Some, is_some, cond, arith, refl}
+use Rattle.std.proofs.Common.{◌≡◌, ◌<◌, ◌≤◌, ◌+◌, ◌-◌, ℕ, zero, suc, true, false, List, [], ◌∷◌, ◌++◌, length, take, drop, get_or, drop-cons, length-drop, min, Some, is_some, arith, refl}
 use Rattle.std.proofs.Math.ListN.{replicate}
 use Rattle.std.proofs.lemmas.Bool.Decides.{nat_tests}
 use Rattle.std.proofs.lemmas.Grind.{common_steps}
 use Rattle.std.proofs.lemmas.List.{length-replicate}
 use Rattle.nas_elements.specs.Dnn.{dnn_fault, dnn_in, fits_label, is_dnn, is_labels, labels_front}
 use Rattle.nas_elements.specs.Reads.{IsWrongAt, StartsAValue}
-use Rattle.nas_elements.proofs.Fronts.{wrong_front}
+use Rattle.nas_elements.proofs.Fronts.{counts_on, wrong_front}
 use Rattle.nas_elements.proofs.Sized.{starts_whole}
-
--- one more octet, where the count goes on behind it
-cut_next : (b : Bool) (n x y : ℕ) → x ≡ min n y → cond b (1 + x) 0 ≡ min (suc n) (cond b (1 + y) 0)
-cut_next true n x y e = omega arith
-cut_next false n x y e = omega arith
 
 pub labels_front-take : (n room owed : ℕ) (os : List ℕ) → labels_front room owed (take n os) ≡ min n (labels_front room owed os)
 labels_front-take zero room owed os = omega arith
 labels_front-take (suc n) room owed [] = omega arith
 labels_front-take (suc n) room zero (size ∷ os) =
-    cut_next (fits_label room size) n (labels_front (room - 1) size (take n os)) (labels_front (room - 1) size os) (labels_front-take n (room - 1) size os)
+    counts_on (fits_label room size) n (labels_front (room - 1) size (take n os)) (labels_front (room - 1) size os) (labels_front-take n (room - 1) size os)
 labels_front-take (suc n) room (suc owed) (o ∷ os) = omega (arith, labels_front-take n (room - 1) owed os)
 
 -- what is owed is there

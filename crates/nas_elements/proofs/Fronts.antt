@@ -1,7 +1,12 @@
 -- Values whose octets follow a grammar. A function counts the octets that can start a value, from the first on.
-use Rattle.std.proofs.Common.{◌≡◌, ◌≤◌, ◌+◌, ℕ, true, List, ◌++◌, length, take, min, Option, Some, is_some, ap, arith}
+use Rattle.std.proofs.Common.{◌≡◌, ◌≤◌, ◌+◌, ℕ, suc, Bool, true, false, List, ◌++◌, length, take, min, Option, Some, is_some, cond, ap, arith}
 use Rattle.std.proofs.lemmas.Grind.{common_steps}
 use Rattle.nas_elements.specs.Reads.{IsWrongAt, StartsAValue}
+
+-- one more octet, where the count goes on behind it
+pub counts_on : (b : Bool) (n x y : ℕ) → x ≡ min n y → cond b (1 + x) 0 ≡ min (suc n) (cond b (1 + y) 0)
+counts_on true n x y e = omega arith
+counts_on false n x y e = omega arith
 
 is_some_of : {A : Type 0} {read : Option A} {value : A} → read ≡ Some value → is_some read ≡ true
 is_some_of {A} {read} {value} whole = grind (arith, whole)

@@ -1,4 +1,6 @@
 pub mod DnnLaws
 pub mod Fronts
+pub mod NssaiLaws
+pub mod NssaiReading
 pub mod Sized
 pub mod SliceLaws

@@ -1,4 +1,5 @@
 pub mod Capability
 pub mod Dnn
+pub mod Nssai
 pub mod Reads
 pub mod Slice

@@ -1,10 +1,11 @@
 //! What holds of every value. These functions do nothing: their contracts are the laws.
-ghost use Rattle.std.specs.Prelude.{◌≡◌, length, Some};
+ghost use Rattle.std.specs.Prelude.{◌≡◌, Some};
 ghost use Rattle.nas_elements.specs.Capability.{capability_in};
 ghost use Rattle.nas_elements.specs.Dnn.{dnn_in};
+ghost use Rattle.nas_elements.specs.Nssai.{nssai_in, nssai_octets};
 ghost use Rattle.nas_elements.specs.Slice.{slice_in, slice_octets};
 
-use crate::{Capability, Dnn, Slice};
+use crate::{Capability, Dnn, Nssai, Slice};
 
 /// A capability that is written is read back.
 pub fn capability_is_read_back(capability: &Capability)
@@ -20,18 +21,17 @@ pub fn dnn_is_read_back(dnn: &Dnn)
     let _items = &dnn.items;
 }
 
+/// A list of slices that is written is read back.
+#[tactic(auto, using(crate::proofs::NssaiLaws::read_back))]
+pub fn nssai_is_read_back(nssai: &Nssai)
+    ensures { nssai_in (nssai_octets nssai.now) ≡ Some nssai.now }
+{
+    let _items = &nssai.items;
+}
+
 /// A slice that is written is read back.
 pub fn slice_is_read_back(slice: &Slice)
     ensures { slice_in (slice_octets slice.now) ≡ Some slice.now }
 {
-    if let Some(sd) = slice.sd {
-        has_three(&sd);
-    }
-}
-
-// An SD has 3 octets.
-fn has_three(sd: &[u8; 3])
-    ensures { length sd.now ≡ 3 }
-{
-    let _sd = *sd;
+    let _slice = slice.copy();
 }

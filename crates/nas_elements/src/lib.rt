@@ -4,11 +4,15 @@
 mod capability;
 mod dnn;
 mod laws;
+mod nssai;
 mod slice;
 mod wrong;
 
 pub use crate::capability::Capability;
 pub use crate::dnn::Dnn;
-pub use crate::laws::{capability_is_read_back, dnn_is_read_back, slice_is_read_back};
+pub use crate::laws::{
+    capability_is_read_back, dnn_is_read_back, nssai_is_read_back, slice_is_read_back,
+};
+pub use crate::nssai::Nssai;
 pub use crate::slice::Slice;
 pub use crate::wrong::Wrong;

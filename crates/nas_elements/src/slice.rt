@@ -1,16 +1,17 @@
 //! The slices of a network.
-ghost use Rattle.std.specs.Prelude.{◌≡◌, ◌∷◌};
+ghost use Rattle.std.specs.Prelude.{◌≡◌, ◌≤◌, length, true};
 ghost use Rattle.nas_base.specs.Writing.{Writes};
 ghost use Rattle.nas_elements.specs.Reads.{Reads};
-ghost use Rattle.nas_elements.specs.Slice.{is_sst, is_sst_and_sd, slice_in, slice_octets};
+ghost use Rattle.nas_elements.specs.Slice.{is_slice, is_slice_size, is_sst, is_sst_and_sd, slice_in, slice_octets};
 
 use crate::Wrong;
+use arrayvec::ArrayVec;
 use nas_base::{Full, Writer};
 
 const MOST: usize = 8;
 
 /// A slice (S-NSSAI): its type, SST, and what tells slices of one type apart, SD (TS 24.501 clause 9.11.2.8).
-#[derive(Clone, Copy, Debug, PartialEq, Eq)]
+#[derive(Clone, Copy, Debug, Default, PartialEq, Eq)]
 pub struct Slice {
     pub sst: u8,
     pub sd: Option<[u8; 3]>,
@@ -51,18 +52,47 @@ impl Slice {
     pub fn write(&self, out: &mut Writer) -> Result<(), Full>
         ensures { Writes (slice_octets self.now) out.old out.new result }
     {
-        match self.sd {
-            None => out.put(&[self.sst]),
-            Some(sd) => put_sst_and_sd(self.sst, sd, out),
+        out.put(self.octets().as_slice())
+    }
+
+    /// An equal value.
+    pub fn copy(&self) -> Slice
+        ensures value { result ≡ self.now }
+        ensures sd { is_slice result ≡ true }
+    {
+        if let Some(sd) = self.sd {
+            has_three(&sd);
         }
+        *self
+    }
+
+    // What is written of it.
+    pub(crate) fn octets(&self) -> ArrayVec<u8, 4>
+        ensures value { result.items ≡ slice_octets self.now }
+        ensures limit { length result.items ≤ 4 }
+    {
+        let mut octets = ArrayVec::new();
+        octets.push(self.sst);
+        if let Some(sd) = self.sd {
+            has_three(&sd);
+            octets.try_extend_from_slice(&sd).unwrap();
+        }
+        octets
     }
 }
 
-// Writes an SST and an SD.
-fn put_sst_and_sd(sst: u8, sd: [u8; 3], out: &mut Writer) -> Result<(), Full>
-    ensures { Writes (sst ∷ sd) out.old out.new result }
+// Three octets are three.
+fn has_three(sd: &[u8; 3])
+    ensures { length sd.now ≡ 3 }
 {
-    out.put(&[sst, sd[0], sd[1], sd[2]])
+    let _sd = *sd;
+}
+
+// Whether a slice can have so many octets.
+pub(crate) fn is_slice_size(size: usize) -> bool
+    ensures { result ≡ is_slice_size size }
+{
+    has_sst(size) || has_sst_and_sd(size)
 }
 
 // Whether so many octets are an SST, with or without a mapped one.
