@@ -4,6 +4,8 @@
 mod capability;
 mod dnn;
 mod laws;
+#[cfg(test)]
+mod list_tests;
 mod nssai;
 mod slice;
 mod wrong;

@@ -1,5 +1,5 @@
 //! Lists of slices.
-ghost use Rattle.std.specs.Prelude.{◌≡◌, ◌≤◌, length, true};
+ghost use Rattle.std.specs.Prelude.{◌≡◌, true};
 ghost use Rattle.nas_base.specs.Writing.{Writes};
 ghost use Rattle.nas_elements.specs.Nssai.{first_in, is_nssai, nssai_from, nssai_in, nssai_octets};
 ghost use Rattle.nas_elements.specs.Reads.{Reads};
