@@ -1,11 +1,11 @@
 -- Where octets stop being the front of a list of slices.
-use Rattle.std.proofs.Common.{◌≡◌, ◌≤◌, ◌+◌, ◌-◌, ℕ, zero, suc, Bool, true, false, ◌&&◌, List, [], ◌∷◌, ◌++◌, length, take, drop, length-drop, sym, ◌∙◌, min, nat_lt, nat_le, Option, Some, None, is_some, cond, ap, arith, refl}
+use Rattle.std.proofs.Common.{◌≡◌, ◌≤◌, ◌+◌, ◌-◌, ℕ, zero, suc, Bool, true, false, List, [], ◌∷◌, ◌++◌, length, take, drop, length-drop, sym, ◌∙◌, min, nat_lt, nat_le, Option, Some, None, is_some, cond, ap, arith, refl}
 use Rattle.std.proofs.Math.ListN.{replicate}
 use Rattle.std.proofs.lemmas.Bool.Decides.{nat_tests}
 use Rattle.std.proofs.lemmas.Grind.{common_steps}
 use Rattle.std.proofs.lemmas.List.{length-replicate}
 use Rattle.std.specs.List.{list_all}
-use Rattle.nas_elements.specs.Nssai.{before, first_in, is_nssai, nssai_in, nssai_octets, slices_front, slices_in}
+use Rattle.nas_elements.specs.Nssai.{before, first_in, is_nssai, nssai_in, nssai_octets, slices_front, slices_in, starts_slice}
 use Rattle.nas_elements.specs.Reads.{IsWrongAt, StartsAValue}
 use Rattle.nas_elements.specs.Slice.{is_slice, is_slice_size, slice_in, slice_octets}
 use Rattle.nas_elements.specs.declared.slice.Slice.{Slice}
@@ -16,7 +16,7 @@ pub slices_front-take : (n most owed : ℕ) (os : List ℕ) → slices_front mos
 slices_front-take zero most owed os = omega arith
 slices_front-take (suc n) most owed [] = omega arith
 slices_front-take (suc n) most zero (size ∷ os) =
-    counts_on (nat_lt 0 most && is_slice_size size) n (slices_front (most - 1) size (take n os)) (slices_front (most - 1) size os) (slices_front-take n (most - 1) size os)
+    counts_on (starts_slice most size) n (slices_front (most - 1) size (take n os)) (slices_front (most - 1) size os) (slices_front-take n (most - 1) size os)
 slices_front-take (suc n) most (suc owed) (o ∷ os) = omega (arith, slices_front-take n most owed os)
 
 -- what is owed is there, and behind it all starts anew

@@ -1,9 +1,9 @@
 -- Reading slices one after the other.
-use Rattle.std.proofs.Common.{◌≡◌, ◌<◌, ◌≤◌, ◌+◌, ◌-◌, ◌⊎◌, inl, inr, ℕ, zero, suc, Bool, true, false, List, [], ◌∷◌, ◌++◌, length, take, drop, get_or, length-drop, sym, ◌∙◌, nat_lt, nat_le, Option, Some, None, is_some, cond, ap, subst, arith, refl}
+use Rattle.std.proofs.Common.{◌≡◌, ◌<◌, ◌≤◌, ◌+◌, ◌-◌, ◌⊎◌, inl, inr, ℕ, zero, suc, Bool, true, false, ◌&&◌, List, [], ◌∷◌, ◌++◌, length, take, drop, get_or, length-drop, sym, ◌∙◌, nat_lt, nat_le, Option, Some, None, is_some, cond, ap, subst, arith, refl}
 use Rattle.std.specs.List.{list_all}
 use Rattle.std.proofs.lemmas.Bool.Decides.{nat_tests}
 use Rattle.std.proofs.lemmas.Grind.{common_steps}
-use Rattle.nas_elements.specs.Nssai.{before, first_in, nssai_in, slices_front, slices_in}
+use Rattle.nas_elements.specs.Nssai.{before, first_in, nssai_in, slices_front, slices_in, starts_slice}
 use Rattle.nas_elements.specs.Reads.{IsWrongAt}
 use Rattle.nas_elements.specs.Slice.{is_slice, is_slice_size, is_sst, is_sst_and_sd, slice_in}
 use Rattle.nas_elements.specs.declared.slice.Slice.{Slice}
@@ -140,16 +140,34 @@ one_cut octets slices size os so few right read = go so.most so.room so.told so.
 wrong_at : (octets : List ℕ) (at : ℕ) → (nssai_in octets ≡ None) × (slices_front 8 0 octets ≡ at) → (nssai_in octets ≡ None) × IsWrongAt nssai_in octets at
 wrong_at octets at found = (found.0, subst (λ (n : ℕ). IsWrongAt nssai_in octets n) found.1 (wrong_nssai octets))
 
+may_start : (most size : ℕ) → starts_slice most size ≡ true → (0 < most) × (is_slice_size size ≡ true)
+may_start most size h = go (nat_lt 0 most) refl h where
+  go : (b : Bool) → nat_lt 0 most ≡ b → (b && is_slice_size size) ≡ true → (0 < most) × (is_slice_size size ≡ true)
+  go true some right = (grind (arith, nat_tests), right)
+  go false some right = cc
+
+may_not_start : (most size : ℕ) → starts_slice most size ≡ false → (most ≡ 0) ⊎ (is_slice_size size ≡ false)
+may_not_start most size h = go (nat_lt 0 most) refl h where
+  go : (b : Bool) → nat_lt 0 most ≡ b → (b && is_slice_size size) ≡ false → (most ≡ 0) ⊎ (is_slice_size size ≡ false)
+  go true some wrong = inr wrong
+  go false none wrong = inl (grind (arith, nat_tests))
+
 -- the same of what is left, given by its number of octets and the first of them
 pub wrong_start : (octets : List ℕ) (slices : List Slice) (rest : List ℕ) → SoFar octets slices rest → 0 < length rest
-    → (length slices ≡ 8) ⊎ (is_slice_size (get_or rest 0 0) ≡ false) → (nssai_in octets ≡ None) × IsWrongAt nssai_in octets (length octets - length rest)
+    → starts_slice (8 - length slices) (get_or rest 0 0) ≡ false → (nssai_in octets ≡ None) × IsWrongAt nssai_in octets (length octets - length rest)
 wrong_start octets slices [] so some wrong = absurd (omega arith)
-wrong_start octets slices (size ∷ os) so some wrong = wrong_at octets (length octets - length (size ∷ os)) (none_starts octets slices size os so wrong)
+wrong_start octets slices (size ∷ os) so some wrong = wrong_at octets (length octets - length (size ∷ os)) (none_starts octets slices size os so (full (may_not_start (8 - length slices) size wrong)))
+  where
+    full : (8 - length slices ≡ 0) ⊎ (is_slice_size size ≡ false) → (length slices ≡ 8) ⊎ (is_slice_size size ≡ false)
+    full (inl none) = inl (omega (arith, so.room))
+    full (inr right) = inr right
 
-pub wrong_end : (octets : List ℕ) (slices : List Slice) (rest : List ℕ) → SoFar octets slices rest → 0 < length rest → length slices < 8
-    → is_slice_size (get_or rest 0 0) ≡ true → first_in rest ≡ None → (nssai_in octets ≡ None) × IsWrongAt nssai_in octets (length octets)
-wrong_end octets slices [] so some few right read = absurd (omega arith)
-wrong_end octets slices (size ∷ os) so some few right read = wrong_at octets (length octets) (one_cut octets slices size os so few right read)
+pub wrong_end : (octets : List ℕ) (slices : List Slice) (rest : List ℕ) → SoFar octets slices rest → 0 < length rest
+    → starts_slice (8 - length slices) (get_or rest 0 0) ≡ true → first_in rest ≡ None → (nssai_in octets ≡ None) × IsWrongAt nssai_in octets (length octets)
+wrong_end octets slices [] so some right read = absurd (omega arith)
+wrong_end octets slices (size ∷ os) so some right read =
+    let start : (0 < 8 - length slices) × (is_slice_size size ≡ true) = may_start (8 - length slices) size right in
+    wrong_at octets (length octets) (one_cut octets slices size os so (omega (arith, start.0)) start.1 read)
 
 -- no octets are no list of slices
 pub wrong_none : (octets : List ℕ) (slices : List Slice) (rest : List ℕ) → SoFar octets slices rest → length rest ≡ 0 → length slices ≡ 0
@@ -158,10 +176,11 @@ wrong_none [] slices rest so over none = wrong_at [] 0 (refl, refl)
 wrong_none (o ∷ os) slices rest so over none = absurd (omega (arith, so.begun none))
 
 pub next_read : (octets : List ℕ) (slices : List Slice) (rest : List ℕ) (slice : Slice) (more : List Slice) (left : List ℕ) → SoFar octets slices rest → 0 < length rest
-    → length slices < 8 → is_slice_size (get_or rest 0 0) ≡ true → first_in rest ≡ Some slice → more ≡ slices ++ slice ∷ [] → left ≡ drop (1 + get_or rest 0 0) rest
+    → starts_slice (8 - length slices) (get_or rest 0 0) ≡ true → first_in rest ≡ Some slice → more ≡ slices ++ slice ∷ [] → left ≡ drop (1 + get_or rest 0 0) rest
     → SoFar octets more left
-next_read octets slices [] slice more left so some few right read grown cut = absurd (omega arith)
-next_read octets slices (size ∷ os) slice more left so some few right read grown cut =
+next_read octets slices [] slice more left so some right read grown cut = absurd (omega arith)
+next_read octets slices (size ∷ os) slice more left so some right read grown cut =
+    let start : (0 < 8 - length slices) × (is_slice_size size ≡ true) = may_start (8 - length slices) size right in
     let next : 1 + size ≡ suc size = omega arith in
     let behind : left ≡ drop size os = cut ∙ ap (λ n. drop n (size ∷ os)) next in
-    rw (grown, behind) (one_read octets slices size os slice so few right read)
+    rw (grown, behind) (one_read octets slices size os slice so (omega (arith, start.0)) start.1 read)

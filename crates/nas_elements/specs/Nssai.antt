@@ -41,9 +41,13 @@ is_nssai slices = has_nssai_size slices && list_all is_slice slices
 abbrev pub nssai_from : List Slice → Option (List Slice)
 nssai_from slices = if has_nssai_size slices then Some slices else None
 
+-- where so many slices may still come, one starts with this length octet
+abbrev pub starts_slice : ℕ → ℕ → Bool
+starts_slice most size = nat_lt 0 most && is_slice_size size
+
 -- how many octets, from the first on, can start so many slices at most, behind what is still owed of a slice
 abbrev pub slices_front : ℕ → ℕ → List ℕ → ℕ
 slices_front most owed [] = 0
 slices_front most zero (size ∷ octets) =
-    if nat_lt 0 most && is_slice_size size then 1 + slices_front (most - 1) size octets else 0
+    if starts_slice most size then 1 + slices_front (most - 1) size octets else 0
 slices_front most (suc owed) (octet ∷ octets) = 1 + slices_front most owed octets

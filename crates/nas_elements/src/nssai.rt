@@ -1,9 +1,8 @@
 //! Lists of slices.
 ghost use Rattle.std.specs.Prelude.{◌≡◌, true};
 ghost use Rattle.nas_base.specs.Writing.{Writes};
-ghost use Rattle.nas_elements.specs.Nssai.{first_in, is_nssai, nssai_from, nssai_in, nssai_octets};
+ghost use Rattle.nas_elements.specs.Nssai.{first_in, is_nssai, nssai_from, nssai_in, nssai_octets, starts_slice};
 ghost use Rattle.nas_elements.specs.Reads.{Reads};
-ghost use Rattle.nas_elements.specs.Slice.{is_slice_size};
 
 use crate::slice::is_slice_size;
 use crate::{Slice, Wrong};
@@ -47,7 +46,7 @@ impl Nssai {
         let mut rest = octets;
         while !rest.is_empty() {
             let size = rest[0] as usize;
-            if items.is_full() || !is_slice_size(size) {
+            if !starts_slice(MOST - items.len(), size) {
                 return Err(Wrong {
                     at: octets.len() - rest.len(),
                 });
@@ -116,6 +115,13 @@ impl Nssai {
         }
         octets
     }
+}
+
+// Whether, where so many slices may still come, one starts with this length octet.
+fn starts_slice(most: usize, size: usize) -> bool
+    ensures { result ≡ starts_slice most size }
+{
+    most > 0 && is_slice_size(size)
 }
 
 // The slice that stands first, behind its length octet.
