@@ -1,11 +1,15 @@
+pub mod DnnLaws
 pub mod Fronts
 pub mod GutiFronts
 pub mod IdentityFronts
 pub mod LayoutLaws
 pub mod Lengths
+pub mod NssaiLaws
+pub mod NssaiReading
 pub mod OneOctet
 pub mod PackedLaws
 pub mod ReadBack
 pub mod Sized
+pub mod SliceLaws
 pub mod StatusLemmas
 pub mod SuciFronts

@@ -1,12 +1,15 @@
 pub mod Algs
 pub mod Asi
 pub mod Capability
+pub mod Dnn
 pub mod Guti
 pub mod Identity
 pub mod Layout
+pub mod Nssai
 pub mod Other
 pub mod Packed
 pub mod Reads
+pub mod Slice
 pub mod Status
 pub mod Suci
 pub mod TaiList

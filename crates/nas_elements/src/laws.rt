@@ -3,14 +3,17 @@ ghost use Rattle.std.specs.Prelude.{◌≡◌, Some};
 ghost use Rattle.nas_elements.specs.Algs.{algs_in, algs_octets};
 ghost use Rattle.nas_elements.specs.Asi.{asi_in, asi_octets};
 ghost use Rattle.nas_elements.specs.Capability.{capability_in};
+ghost use Rattle.nas_elements.specs.Dnn.{dnn_in};
 ghost use Rattle.nas_elements.specs.Guti.{guti_in, guti_octets, stmsi_in, stmsi_octets};
 ghost use Rattle.nas_elements.specs.Identity.{identity_in, identity_octets};
+ghost use Rattle.nas_elements.specs.Nssai.{nssai_in, nssai_octets};
+ghost use Rattle.nas_elements.specs.Slice.{slice_in, slice_octets};
 ghost use Rattle.nas_elements.specs.Status.{status_in, status_octets};
 ghost use Rattle.nas_elements.specs.Suci.{suci_in, suci_octets};
 ghost use Rattle.nas_elements.specs.TaiList.{tai_list_in};
 ghost use Rattle.nas_elements.specs.Timer3.{timer3_in, timer3_octets};
 
-use crate::{Algs, Asi, Capability, Guti, Identity, Status, Stmsi, Suci, TaiList, Timer3};
+use crate::{Algs, Asi, Capability, Dnn, Guti, Identity, Nssai, Slice, Status, Stmsi, Suci, TaiList, Timer3};
 
 /// A capability that is written is read back.
 pub fn capability_is_read_back(capability: &Capability)
@@ -88,3 +91,25 @@ pub fn asi_is_read_back(information: Asi)
 pub fn status_is_read_back(status: Status)
     ensures { status_in (status_octets status) ≡ Some status }
 {}
+
+/// A DNN that is written is read back.
+pub fn dnn_is_read_back(dnn: &Dnn)
+    ensures { dnn_in dnn.now ≡ Some dnn.now }
+{
+    let _items = &dnn.items;
+}
+
+/// A list of slices that is written is read back.
+#[tactic(auto, using(crate::proofs::NssaiLaws::read_back))]
+pub fn nssai_is_read_back(nssai: &Nssai)
+    ensures { nssai_in (nssai_octets nssai.now) ≡ Some nssai.now }
+{
+    let _items = &nssai.items;
+}
+
+/// A slice that is written is read back.
+pub fn slice_is_read_back(slice: &Slice)
+    ensures { slice_in (slice_octets slice.now) ≡ Some slice.now }
+{
+    let _slice = slice.copy();
+}
