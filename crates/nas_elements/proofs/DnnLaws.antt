@@ -6,7 +6,7 @@ use Rattle.std.proofs.lemmas.Grind.{common_steps}
 use Rattle.std.proofs.lemmas.List.{length-replicate}
 use Rattle.nas_elements.specs.Dnn.{dnn_fault, dnn_in, fits_label, is_dnn, is_labels, labels_front}
 use Rattle.nas_elements.specs.Reads.{IsWrongAt, StartsAValue}
-use Rattle.nas_elements.proofs.Fronts.{counts_on, wrong_front}
+use Rattle.nas_elements.proofs.GrammarFronts.{counts_on, wrong_front}
 use Rattle.nas_elements.proofs.Sized.{starts_whole}
 
 pub labels_front-take : (n room owed : ℕ) (os : List ℕ) → labels_front room owed (take n os) ≡ min n (labels_front room owed os)

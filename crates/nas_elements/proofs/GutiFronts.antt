@@ -8,7 +8,7 @@ use Rattle.nas_elements.specs.Packed.{◌>>=◌, filler, plmn_in}
 use Rattle.nas_elements.specs.Reads.{IsWrongAt}
 use Rattle.nas_elements.specs.declared.layout.Line.{Line}
 use Rattle.nas_elements.specs.declared.layout.Line.TheVariants.{Any}
-use Rattle.nas_elements.proofs.Fronts.{front, wrong_front}
+use Rattle.nas_elements.proofs.LayoutFronts.{front, wrong_front}
 
 -- three octets hold a network where they meet these lines
 abbrev pub is_network : ℕ → ℕ → ℕ → Bool

@@ -12,7 +12,7 @@ use Rattle.nas_elements.specs.Suci.{SuciParts, is_null_scheme, suci_in}
 use Rattle.nas_elements.specs.declared.guti.Guti.{Guti}
 use Rattle.nas_elements.specs.declared.guti.Stmsi.{Stmsi}
 use Rattle.nas_elements.specs.declared.identity.Identity.TheVariants.{Suci, Guti as GutiIdentity, Stmsi as StmsiIdentity, Other}
-use Rattle.nas_elements.proofs.Fronts.{has_value}
+use Rattle.nas_elements.proofs.LayoutFronts.{has_value}
 use Rattle.nas_elements.proofs.Sized.{nothing, starts_whole}
 
 -- A reading that is the other one where octets begin as these do, and has what the other has, stops at the same place.

@@ -1,7 +1,8 @@
 pub mod DnnLaws
-pub mod Fronts
+pub mod GrammarFronts
 pub mod GutiFronts
 pub mod IdentityFronts
+pub mod LayoutFronts
 pub mod LayoutLaws
 pub mod Lengths
 pub mod NssaiLaws

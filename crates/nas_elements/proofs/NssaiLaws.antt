@@ -9,7 +9,7 @@ use Rattle.nas_elements.specs.Nssai.{before, first_in, is_nssai, nssai_in, nssai
 use Rattle.nas_elements.specs.Reads.{IsWrongAt, StartsAValue}
 use Rattle.nas_elements.specs.Slice.{is_slice, is_slice_size, slice_in, slice_octets}
 use Rattle.nas_elements.specs.declared.slice.Slice.{Slice}
-use Rattle.nas_elements.proofs.Fronts.{counts_on, wrong_front}
+use Rattle.nas_elements.proofs.GrammarFronts.{counts_on, wrong_front}
 use Rattle.nas_elements.proofs.Sized.{starts_whole}
 
 pub slices_front-take : (n most owed : ℕ) (os : List ℕ) → slices_front most owed (take n os) ≡ min n (slices_front most owed os)

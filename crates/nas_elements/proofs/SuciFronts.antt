@@ -9,7 +9,7 @@ use Rattle.nas_elements.specs.Reads.{IsWrongAt}
 use Rattle.nas_elements.specs.Suci.{is_null_scheme, msin_in, routing_in, suci_in}
 use Rattle.nas_elements.specs.declared.layout.Line.{Line}
 use Rattle.nas_elements.specs.declared.layout.Line.TheVariants.{DigitAndPerhapsAnother, MoreDigits, RoutingEnd}
-use Rattle.nas_elements.proofs.Fronts.{front, wrong_front}
+use Rattle.nas_elements.proofs.LayoutFronts.{front, wrong_front}
 use Rattle.nas_elements.proofs.GutiFronts.{is_network, network_some}
 use Rattle.nas_elements.proofs.PackedLaws.{length-halves_of, length-unfilled}
 
