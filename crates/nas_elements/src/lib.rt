@@ -7,6 +7,8 @@ mod capability;
 mod dnn;
 mod guti;
 mod identity;
+#[cfg(test)]
+mod identity_tests;
 mod laws;
 mod layout;
 #[cfg(test)]
