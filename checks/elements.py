@@ -9,13 +9,38 @@ import sys
 from probe import compare, text
 
 
+class OfType:
+    """The model's reader of identities, for those with this type in bits 1 to 3 of the first octet alone."""
+
+    def __init__(self, codec, kind):
+        self.codec, self.kind = codec, kind
+
+    def read(self, octets):
+        if not octets or octets[0] & 7 != self.kind:
+            raise self.codec.Wrong(0)
+        return self.codec.Identity.read(octets)
+
+    def write(self, value):
+        return self.codec.Identity.write(value)
+
+
 def readers(codec):
     """The calls, each with the model's reader, and octets of values to start from."""
+    gutis = ["f200f11002004000000001", "f221436520ff123456789a"]
+    stmsis = ["f4004000000001"]
+    sucis = ["0100f110f0ff00000000000010", "0121436521f30000f7", "0100f1102143010012", "0100f11021ff000021"]
+    others = ["0911", "0382", "05", "0700ff", "1102"]
     return {
         "read_algs": (codec.AlgsC, ["02", "21"]),
         "read_asi": (codec.U8, ["00", "02"]),
         "read_capability": (codec.Octs(2, 8), ["a020", "f0f0f0f0", "a020000000000000"]),
+        "read_dnn": (codec.DnnC, ["08696e7465726e6574", "0161", "3f" + "61" * 63 + "23" + "62" * 35]),
+        "read_guti": (OfType(codec, 2), gutis),
+        "read_identity": (codec.Identity, gutis + stmsis + sucis * 3 + others),
+        "read_nssai": (codec.NssaiC, ["0101", "0401010203", "0201020501020304050801020304050607ff", "0101" * 8]),
+        "read_slice": (codec.SliceC, ["01", "01010203", "0102", "0101020304", "0101020301010203"]),
         "read_status": (codec.StatusC, ["2000", "feff", "02800000"]),
+        "read_stmsi": (OfType(codec, 4), stmsis),
         "read_tai_list": (codec.Octs(7, 112), ["0000f110000001", "00" + "f110000001" * 16]),
         "read_timer3": (codec.U8, ["06", "e0"]),
     }
