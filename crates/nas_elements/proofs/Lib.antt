@@ -5,6 +5,7 @@ pub mod IdentityFronts
 pub mod LayoutFronts
 pub mod LayoutLaws
 pub mod Lengths
+pub mod NssaiFronts
 pub mod NssaiLaws
 pub mod NssaiReading
 pub mod OneOctet

@@ -7,7 +7,7 @@ use Rattle.nas_elements.specs.Nssai.{before, first_in, nssai_in, slices_front, s
 use Rattle.nas_elements.specs.Reads.{IsWrongAt}
 use Rattle.nas_elements.specs.Slice.{is_slice, is_slice_size, is_sst, is_sst_and_sd, slice_in}
 use Rattle.nas_elements.specs.declared.slice.Slice.{Slice}
-use Rattle.nas_elements.proofs.NssaiLaws.{front_cut, front_slice, slice_there, wrong_nssai}
+use Rattle.nas_elements.proofs.NssaiFronts.{front_cut, front_slice, slice_there, wrong_nssai}
 
 -- slices before others, where these are all there
 abbrev pub all_before : List Slice → Option (List Slice) → Option (List Slice)

@@ -81,7 +81,7 @@ impl Slice {
     }
 }
 
-// Three octets are three.
+// An SD has 3 octets.
 fn has_three(sd: &[u8; 3])
     ensures { length sd.now ≡ 3 }
 {
