@@ -4,8 +4,8 @@ ghost use Rattle.nas_base.specs.Writing.{Writes};
 ghost use Rattle.mm_messages.specs.Messages.{body_at, mm_in, spelling};
 ghost use Rattle.mm_messages.specs.Parts.{Decodes};
 
-use crate::registration::{self, REGISTRATION_REJECT, REGISTRATION_REQUEST};
 use crate::RegistrationType;
+use crate::registration::{self, REGISTRATION_REJECT, REGISTRATION_REQUEST};
 use nas_base::{Full, Ksi, Reader, Writer};
 use nas_elements::{Capability, Identity};
 use std::alloc::Global;

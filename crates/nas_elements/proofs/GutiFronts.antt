@@ -50,10 +50,10 @@ network b c fills = if fills then c % 16 ∷ c / 16 ∷ [] else c % 16 ∷ c / 1
 pub network_some : (a b c : ℕ) → is_some (plmn_in a b c) ≡ is_network a b c
 network_some a b c = some_if (is_plmn (country a b) (network b c (b / 16 == filler))) (record { mcc = country a b; mnc = network b c (b / 16 == filler) })
     ∙ go (b / 16 == filler) where
-  go : (fills : Bool) → is_plmn (country a b) (network b c fills)
-      ≡ (digit (a % 16) && digit (a / 16) && ((digit (b % 16) && (digit (b / 16) || fills)) && (digit (c % 16) && digit (c / 16))))
-  go true = two_digits (digit (a % 16)) (digit (a / 16)) (digit (b % 16)) (digit (c % 16)) (digit (c / 16)) (digit (b / 16))
-  go false = three_digits (digit (a % 16)) (digit (a / 16)) (digit (b % 16)) (digit (c % 16)) (digit (c / 16)) (digit (b / 16))
+      go : (fills : Bool) → is_plmn (country a b) (network b c fills)
+          ≡ (digit (a % 16) && digit (a / 16) && ((digit (b % 16) && (digit (b / 16) || fills)) && (digit (c % 16) && digit (c / 16))))
+      go true = two_digits (digit (a % 16)) (digit (a / 16)) (digit (b % 16)) (digit (c % 16)) (digit (c / 16)) (digit (b / 16))
+      go false = three_digits (digit (a % 16)) (digit (a / 16)) (digit (b % 16)) (digit (c % 16)) (digit (c / 16)) (digit (b / 16))
 
 abbrev pub anything : ℕ → List Line
 anything zero = []

@@ -91,23 +91,25 @@ same_octet octets rest i n some more = grind (arith, common_steps)
 
 pub wrong_as_guti : (octets : List ℕ) (at : ℕ) → type_of_identity octets ≡ 2 → 0 < length octets
     → (guti_in octets ≡ None) × IsWrongAt guti_in octets at → (identity_in octets ≡ None) × IsWrongAt identity_in octets at
-wrong_as_guti octets at kind some wrong =
-    (is_guti octets kind ∙ ap (map (λ g. GutiIdentity g)) wrong.0,
-    same_place guti_in identity_in octets at
-    (λ os h. rw (is_guti os (guti_kind os h), some-map (λ g. GutiIdentity g) (guti_in os)) h)
-    (λ rest h. let kinds = ap (λ o. o % 8) (same_octet octets rest 0 (at + 1) some (omega arith)) ∙ kind in
+wrong_as_guti octets at kind some wrong = (
+  is_guti octets kind ∙ ap (map (λ g. GutiIdentity g)) wrong.0,
+  same_place guti_in identity_in octets at
+      (λ os h. rw (is_guti os (guti_kind os h), some-map (λ g. GutiIdentity g) (guti_in os)) h)
+      (λ rest h. let kinds = ap (λ o. o % 8) (same_octet octets rest 0 (at + 1) some (omega arith)) ∙ kind in
       sym (some-map (λ g. GutiIdentity g) (guti_in (take (at + 1) octets ++ rest))) ∙ sym (ap is_some (is_guti (take (at + 1) octets ++ rest) kinds)) ∙ h)
-    wrong.1)
+      wrong.1,
+)
 
 pub wrong_as_stmsi : (octets : List ℕ) (at : ℕ) → type_of_identity octets ≡ 4 → 0 < length octets
     → (stmsi_in octets ≡ None) × IsWrongAt stmsi_in octets at → (identity_in octets ≡ None) × IsWrongAt identity_in octets at
-wrong_as_stmsi octets at kind some wrong =
-    (is_stmsi octets kind ∙ ap (map (λ s. StmsiIdentity s)) wrong.0,
-    same_place stmsi_in identity_in octets at
-    (λ os h. rw (is_stmsi os (stmsi_kind os h), some-map (λ s. StmsiIdentity s) (stmsi_in os)) h)
-    (λ rest h. let kinds = ap (λ o. o % 8) (same_octet octets rest 0 (at + 1) some (omega arith)) ∙ kind in
+wrong_as_stmsi octets at kind some wrong = (
+  is_stmsi octets kind ∙ ap (map (λ s. StmsiIdentity s)) wrong.0,
+  same_place stmsi_in identity_in octets at
+      (λ os h. rw (is_stmsi os (stmsi_kind os h), some-map (λ s. StmsiIdentity s) (stmsi_in os)) h)
+      (λ rest h. let kinds = ap (λ o. o % 8) (same_octet octets rest 0 (at + 1) some (omega arith)) ∙ kind in
       sym (some-map (λ s. StmsiIdentity s) (stmsi_in (take (at + 1) octets ++ rest))) ∙ sym (ap is_some (is_stmsi (take (at + 1) octets ++ rest) kinds)) ∙ h)
-    wrong.1)
+      wrong.1,
+)
 
 pub starts_shorter : {A : Type 0} (reading : List ℕ → Option A) (p q : List ℕ) → StartsAValue reading (p ++ q) → StartsAValue reading p
 starts_shorter {A} reading p q starts = record { rest = q ++ starts.rest; value = starts.value; whole = ap reading (sym (append_assoc p q starts.rest)) ∙ starts.whole }
@@ -152,18 +154,20 @@ starts_before octets at place one kept before scheme some starts =
 pub wrong_as_suci : (octets : List ℕ) (at : ℕ) → first octets ≡ 0x01 → 0 < length octets → is_kept octets ≡ false
     → (suci_in octets ≡ None) × IsWrongAt suci_in octets at
     → (identity_in octets ≡ None) × IsWrongAt identity_in octets (max at (min (length octets) 6))
-wrong_as_suci octets at one some kept wrong =
-    (is_suci_first octets kept one ∙ ap (map (λ s. Suci s)) wrong.0,
-    record {
-      within = let w = wrong.1.within in omega arith;
-      before = go (nat_le at (min (length octets) 6)) refl;
-      here = λ more starts. wrong.1.here (omega arith) (suci_starts more starts);
-    }) where
+wrong_as_suci octets at one some kept wrong = (
+  is_suci_first octets kept one ∙ ap (map (λ s. Suci s)) wrong.0,
+  record {
+    within = let w = wrong.1.within in omega arith;
+    before = go (nat_le at (min (length octets) 6)) refl;
+    here = λ more starts. wrong.1.here (omega arith) (suci_starts more starts);
+  },
+) where
   go : (b : Bool) → nat_le at (min (length octets) 6) ≡ b → StartsAValue identity_in (take (max at (min (length octets) 6)) octets)
   go true h = other_follows octets (max at (min (length octets) 6)) one (grind (arith, nat_tests, h, some)) (grind (arith, nat_tests, h)) (grind (arith, nat_tests, h))
   go false h = let eq : max at (min (length octets) 6) ≡ at = grind (arith, nat_tests, h) in
-    subst (λ n. StartsAValue identity_in (take n octets)) (sym eq)
-    (starts_whole identity_in (take at octets) wrong.1.before.rest (suci_up (take at octets ++ wrong.1.before.rest) (has_value wrong.1.before.whole)))
+      subst (λ n. StartsAValue identity_in (take n octets)) (sym eq)
+      (starts_whole identity_in (take at octets) wrong.1.before.rest (suci_up (take at octets ++ wrong.1.before.rest) (has_value wrong.1.before.whole)))
+
   suci_starts : max at (min (length octets) 6) < length octets → StartsAValue identity_in (take (max at (min (length octets) 6) + 1) octets)
       → StartsAValue suci_in (take (at + 1) octets)
   suci_starts more starts = starts_before octets at (max at (min (length octets) 6)) one kept (omega arith) (omega arith) more starts
@@ -192,9 +196,9 @@ none_long octets kept many = go (first octets == 0x01) refl where
 pub kept_too : (octets rest : List ℕ) (n : ℕ) → 7 ≤ n → 7 ≤ length octets → is_kept octets ≡ true → is_kept (take n octets ++ rest) ≡ true
 kept_too octets rest n more many kept = alike octets (take n octets ++ rest) (same_octet octets rest 0 n (omega arith) (omega arith))
     (same_octet octets rest 6 n (omega arith) (omega arith)) many (grind (arith, common_steps)) kept where
-  alike : (one other : List ℕ) → first other ≡ first one → slice_index other 6 ≡ slice_index one 6 → 7 ≤ length one → 7 ≤ length other
-      → is_kept one ≡ true → is_kept other ≡ true
-  alike one other same scheme many more kept = grind (arith, nat_tests, same, scheme, many, more, kept)
+      alike : (one other : List ℕ) → first other ≡ first one → slice_index other 6 ≡ slice_index one 6 → 7 ≤ length one → 7 ≤ length other
+          → is_kept one ≡ true → is_kept other ≡ true
+      alike one other same scheme many more kept = grind (arith, nat_tests, same, scheme, many, more, kept)
 
 pub length_front : (octets rest : List ℕ) (n : ℕ) → n ≤ length octets → length (take n octets ++ rest) ≡ n + length rest
 length_front octets rest n within = grind (arith, common_steps)
@@ -203,17 +207,18 @@ pub within_limit : (octets : List ℕ) (n : ℕ) → is_kept octets ≡ true →
 within_limit octets n kept limit some few = grind (arith, nat_tests, kept, limit, some, few)
 
 pub wrong_long : (octets : List ℕ) → is_kept octets ≡ true → 4100 < length octets → (identity_in octets ≡ None) × IsWrongAt identity_in octets 4100
-wrong_long octets kept many =
-    (no_value (identity_in octets) (none_long octets kept many),
-    record {
-      within = omega arith;
-      before = starts_whole identity_in (take 4100 octets) [] (is_other_some (take 4100 octets ++ [])
+wrong_long octets kept many = (
+  no_value (identity_in octets) (none_long octets kept many),
+  record {
+    within = omega arith;
+    before = starts_whole identity_in (take 4100 octets) [] (is_other_some (take 4100 octets ++ [])
         (within_limit (take 4100 octets ++ []) 4100 (kept_too octets [] 4100 (omega arith) (omega arith) kept)
         (length_front octets [] 4100 (omega arith)) (omega arith) (omega arith)));
-      here = λ some starts. let n = length_front octets starts.rest 4101 (omega arith) in
+    here = λ some starts. let n = length_front octets starts.rest 4101 (omega arith) in
         nothing starts.whole (none_long (take 4101 octets ++ starts.rest)
         (kept_too octets starts.rest 4101 (omega arith) (omega arith) kept) (omega arith));
-    })
+  },
+)
 
 pub wrong_empty : (octets : List ℕ) → length octets < 1 → (identity_in octets ≡ None) × IsWrongAt identity_in octets 0
 unfolding identity_in

@@ -108,12 +108,12 @@ pub wrong_front : {A : Type 0} (reading : List ℕ → Option A) (sure more : Li
 wrong_front reading sure more octets h sound complete = record {
   within = met-within 0 (sure ++ more) octets;
   before = let p = take (met 0 (sure ++ more) octets) octets in
-    starts_whole reading p (map witness (drop (length p) sure))
-    (complete (p ++ map witness (drop (length p) sure)) (front-filled 0 p sure more h (front-met 0 (sure ++ more) octets)) (length-filled p sure));
+      starts_whole reading p (map witness (drop (length p) sure))
+      (complete (p ++ map witness (drop (length p) sure)) (front-filled 0 p sure more h (front-met 0 (sure ++ more) octets)) (length-filled p sure));
   here = λ some starts. let next : met 0 (sure ++ more) octets + 1 ≡ suc (met 0 (sure ++ more) octets) = omega arith in
-    absurd_front some (subst (λ n. StartsAValue reading (take n octets)) next starts);
+      absurd_front some (subst (λ n. StartsAValue reading (take n octets)) next starts);
 } where
   absurd_front : met 0 (sure ++ more) octets < length octets → StartsAValue reading (take (suc (met 0 (sure ++ more) octets)) octets) → ⊥
   absurd_front some starts = not_both (front-past 0 (sure ++ more) octets some)
-    (front-shorter 0 (take (suc (met 0 (sure ++ more) octets)) octets) starts.rest (sure ++ more)
-    (sound (take (suc (met 0 (sure ++ more) octets)) octets ++ starts.rest) (has_value starts.whole)))
+      (front-shorter 0 (take (suc (met 0 (sure ++ more) octets)) octets) starts.rest (sure ++ more)
+      (sound (take (suc (met 0 (sure ++ more) octets)) octets ++ starts.rest) (has_value starts.whole)))

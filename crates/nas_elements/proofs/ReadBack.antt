@@ -45,8 +45,13 @@ routing_digits (a ∷ b ∷ []) h =
     rw (low a b (grind (arith, nat_tests, h)), high a b (grind (arith, nat_tests, h)))
     (kept (a ∷ []) b (grind (arith, nat_tests, h)))
 routing_digits (a ∷ b ∷ c ∷ []) h =
-    rw (low a b (grind (arith, nat_tests, h)), high a b (grind (arith, nat_tests, h)), low c filler (grind (arith, nat_tests, h)), high c filler (grind (arith, nat_tests, h)),
-    kept (a ∷ b ∷ []) c (grind (arith, nat_tests, h)))
+    rw (
+      low a b (grind (arith, nat_tests, h)),
+      high a b (grind (arith, nat_tests, h)),
+      low c filler (grind (arith, nat_tests, h)),
+      high c filler (grind (arith, nat_tests, h)),
+      kept (a ∷ b ∷ []) c (grind (arith, nat_tests, h)),
+    )
     (kept (a ∷ b ∷ []) c (grind (arith, nat_tests, h)))
 routing_digits (a ∷ b ∷ c ∷ d ∷ []) h =
     let k = kept (a ∷ b ∷ c ∷ []) d (grind (arith, nat_tests, h)) in
@@ -61,12 +66,27 @@ pub network_back : (mcc mnc : List ℕ) → is_plmn mcc mnc ≡ true
     → plmn_in (two_halves (slice_index mcc 0) (slice_index mcc 1)) (two_halves (slice_index mcc 2) (third_digit mnc)) (two_halves (slice_index mnc 0) (slice_index mnc 1))
     ≡ Some (record { mcc = mcc; mnc = mnc })
 network_back (a ∷ b ∷ c ∷ []) (d ∷ e ∷ []) h =
-    rw (low a b (grind (arith, nat_tests, h)), high a b (grind (arith, nat_tests, h)), low c filler (grind (arith, nat_tests, h)), high c filler (grind (arith, nat_tests, h)),
-    low d e (grind (arith, nat_tests, h)), high d e (grind (arith, nat_tests, h)), h) refl
+    rw (
+      low a b (grind (arith, nat_tests, h)),
+      high a b (grind (arith, nat_tests, h)),
+      low c filler (grind (arith, nat_tests, h)),
+      high c filler (grind (arith, nat_tests, h)),
+      low d e (grind (arith, nat_tests, h)),
+      high d e (grind (arith, nat_tests, h)),
+      h,
+    ) refl
 network_back (a ∷ b ∷ c ∷ []) (d ∷ e ∷ f ∷ []) h =
     let no_filler : (f == filler) ≡ false = grind (arith, nat_tests, h) in
-    rw (low a b (grind (arith, nat_tests, h)), high a b (grind (arith, nat_tests, h)), low c f (grind (arith, nat_tests, h)), high c f (grind (arith, nat_tests, h)),
-    low d e (grind (arith, nat_tests, h)), high d e (grind (arith, nat_tests, h)), no_filler, h) refl
+    rw (
+      low a b (grind (arith, nat_tests, h)),
+      high a b (grind (arith, nat_tests, h)),
+      low c f (grind (arith, nat_tests, h)),
+      high c f (grind (arith, nat_tests, h)),
+      low d e (grind (arith, nat_tests, h)),
+      high d e (grind (arith, nat_tests, h)),
+      no_filler,
+      h,
+    ) refl
 network_back mcc mnc h = grind (arith, nat_tests, h)
 
 -- a SUCI, from the two octets of its routing indicator
@@ -74,8 +94,13 @@ pub suci_of_parts : (plmn : PlmnIdentity) (routing msin : List ℕ) (e f : ℕ) 
     → msin_in (packed msin) ≡ Some msin
     → suci_in ((0x01 ∷ plmn_octets plmn) ++ (e ∷ f ∷ 0x00 ∷ 0x00 ∷ packed msin)) ≡ Some (record { plmn = plmn; routing = routing; msin = msin })
 suci_of_parts plmn routing msin e f network r m =
-    rw (begins 0x01 (two_halves (slice_index plmn.mcc 0) (slice_index plmn.mcc 1)) (two_halves (slice_index plmn.mcc 2) (third_digit plmn.mnc))
-    (two_halves (slice_index plmn.mnc 0) (slice_index plmn.mnc 1)) e f 0 0 (packed msin), network_back plmn.mcc plmn.mnc network, r, m) refl
+    rw (
+      begins 0x01 (two_halves (slice_index plmn.mcc 0) (slice_index plmn.mcc 1)) (two_halves (slice_index plmn.mcc 2) (third_digit plmn.mnc))
+          (two_halves (slice_index plmn.mnc 0) (slice_index plmn.mnc 1)) e f 0 0 (packed msin),
+      network_back plmn.mcc plmn.mnc network,
+      r,
+      m,
+    ) refl
 
 pub suci_back : (plmn : PlmnIdentity) (routing msin : List ℕ) → is_plmn plmn.mcc plmn.mnc ≡ true → is_suci routing msin ≡ true
     → suci_in (suci_octets (record { plmn = plmn; routing = routing; msin = msin })) ≡ Some (record { plmn = plmn; routing = routing; msin = msin })

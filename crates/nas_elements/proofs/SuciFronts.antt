@@ -28,12 +28,12 @@ between_some low high ds one most = grind (arith, nat_tests, common_steps)
 pub routing_some : (e f : ℕ) → is_some (routing_in (e ∷ f ∷ [])) ≡ (one_or_two_digits e && meets RoutingEnd e f)
 routing_some e f = between_some 1 4 (unfilled (unfilled (unfilled (halves_of (e ∷ f ∷ []))))) (omega arith) (omega arith)
     ∙ go (f / 16 == filler) (f % 16 == filler) (e / 16 == filler) refl refl refl where
-  go : (p q r : Bool) → (f / 16 == filler) ≡ p → (f % 16 == filler) ≡ q → (e / 16 == filler) ≡ r
-      → are_digits 1 4 (unfilled (unfilled (unfilled (halves_of (e ∷ f ∷ []))))) ≡ (one_or_two_digits e && meets RoutingEnd e f)
-  go false q r hp hq hr = rw (kept (e % 16 ∷ e / 16 ∷ f % 16 ∷ []) (f / 16) hp) (grind (arith, nat_tests, hp))
-  go true false r hp hq hr = rw (filled (e % 16 ∷ e / 16 ∷ f % 16 ∷ []) (f / 16) hp, kept (e % 16 ∷ e / 16 ∷ []) (f % 16) hq) (grind (arith, nat_tests, hp, hq))
-  go true true false hp hq hr = rw (filled (e % 16 ∷ e / 16 ∷ f % 16 ∷ []) (f / 16) hp, filled (e % 16 ∷ e / 16 ∷ []) (f % 16) hq, kept (e % 16 ∷ []) (e / 16) hr) (grind (arith, nat_tests, hp, hq, hr))
-  go true true true hp hq hr = rw (filled (e % 16 ∷ e / 16 ∷ f % 16 ∷ []) (f / 16) hp, filled (e % 16 ∷ e / 16 ∷ []) (f % 16) hq, filled (e % 16 ∷ []) (e / 16) hr) (grind (arith, nat_tests, hp, hq, hr))
+      go : (p q r : Bool) → (f / 16 == filler) ≡ p → (f % 16 == filler) ≡ q → (e / 16 == filler) ≡ r
+          → are_digits 1 4 (unfilled (unfilled (unfilled (halves_of (e ∷ f ∷ []))))) ≡ (one_or_two_digits e && meets RoutingEnd e f)
+      go false q r hp hq hr = rw (kept (e % 16 ∷ e / 16 ∷ f % 16 ∷ []) (f / 16) hp) (grind (arith, nat_tests, hp))
+      go true false r hp hq hr = rw (filled (e % 16 ∷ e / 16 ∷ f % 16 ∷ []) (f / 16) hp, kept (e % 16 ∷ e / 16 ∷ []) (f % 16) hq) (grind (arith, nat_tests, hp, hq))
+      go true true false hp hq hr = rw (filled (e % 16 ∷ e / 16 ∷ f % 16 ∷ []) (f / 16) hp, filled (e % 16 ∷ e / 16 ∷ []) (f % 16) hq, kept (e % 16 ∷ []) (e / 16) hr) (grind (arith, nat_tests, hp, hq, hr))
+      go true true true hp hq hr = rw (filled (e % 16 ∷ e / 16 ∷ f % 16 ∷ []) (f / 16) hp, filled (e % 16 ∷ e / 16 ∷ []) (f % 16) hq, filled (e % 16 ∷ []) (e / 16) hr) (grind (arith, nat_tests, hp, hq, hr))
 
 -- the lines of an MSIN
 abbrev pub msin_lines : List Line

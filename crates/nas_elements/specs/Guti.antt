@@ -18,7 +18,11 @@ guti_in octets =
     if length octets == 11 && type_of_identity octets == 2 then (do
       plmn ← plmn_in (slice_index octets 1) (slice_index octets 2) (slice_index octets 3)
       Some (record {
-        plmn = plmn; region = slice_index octets 4; set_pointer = big_number 2 (drop 5 octets); tmsi = big_number 4 (drop 7 octets) }))
+        plmn = plmn;
+        region = slice_index octets 4;
+        set_pointer = big_number 2 (drop 5 octets);
+        tmsi = big_number 4 (drop 7 octets);
+      }))
     else None
 
 -- type of identity 4, the bits above it set; set and pointer; 5G-TMSI

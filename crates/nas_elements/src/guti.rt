@@ -32,6 +32,7 @@ pub struct Stmsi {
 
 // Type of identity 2 and 4, the bits above it set.
 const GUTI: u8 = 0xf2;
+
 const STMSI: u8 = 0xf4;
 
 impl Guti {

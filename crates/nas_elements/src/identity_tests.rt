@@ -5,7 +5,11 @@ use std::process::Abort;
 use std::test::Fail;
 
 // What is written of the identity in the octets, or the place where they are wrong.
-fn compare<R: Abort + AllocGlobal>(rt: &R, octets: &[u8], answer: Result<&[u8], usize>) -> Result<(), Fail> {
+fn compare<R: Abort + AllocGlobal>(
+    rt: &R,
+    octets: &[u8],
+    answer: Result<&[u8], usize>,
+) -> Result<(), Fail> {
     let mut out = Writer::new();
     match Identity::read(rt.alloc(), octets) {
         Ok(identity) => {

@@ -13,7 +13,9 @@ ghost use Rattle.nas_elements.specs.Suci.{suci_in, suci_octets};
 ghost use Rattle.nas_elements.specs.TaiList.{tai_list_in};
 ghost use Rattle.nas_elements.specs.Timer3.{timer3_in, timer3_octets};
 
-use crate::{Algs, Asi, Capability, Dnn, Guti, Identity, Nssai, Slice, Status, Stmsi, Suci, TaiList, Timer3};
+use crate::{
+    Algs, Asi, Capability, Dnn, Guti, Identity, Nssai, Slice, Status, Stmsi, Suci, TaiList, Timer3,
+};
 
 /// A capability that is written is read back.
 pub fn capability_is_read_back(capability: &Capability)

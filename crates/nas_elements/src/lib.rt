@@ -31,7 +31,12 @@ pub use crate::capability::Capability;
 pub use crate::dnn::Dnn;
 pub use crate::guti::{Guti, Stmsi};
 pub use crate::identity::{Identity, IdentityRefusal};
-pub use crate::laws::{algs_are_read_back, asi_is_read_back, capability_is_read_back, dnn_is_read_back, guti_is_read_back, identity_is_read_back, nssai_is_read_back, slice_is_read_back, status_is_read_back, stmsi_is_read_back, suci_is_read_back, tai_list_is_read_back, timer3_is_read_back};
+pub use crate::laws::{
+    algs_are_read_back, asi_is_read_back, capability_is_read_back, dnn_is_read_back,
+    guti_is_read_back, identity_is_read_back, nssai_is_read_back, slice_is_read_back,
+    status_is_read_back, stmsi_is_read_back, suci_is_read_back, tai_list_is_read_back,
+    timer3_is_read_back,
+};
 pub use crate::nssai::Nssai;
 pub use crate::other::OtherIdentity;
 pub use crate::slice::Slice;

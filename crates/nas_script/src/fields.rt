@@ -6,8 +6,8 @@ ghost use Rattle.nas_script.specs.Fields.{capability_at, hex_capability_in, digi
 
 use crate::document::text_of;
 use arrayvec::ArrayVec;
-use nas_elements::Capability;
 use nas_base::{Digits, Plmn, Supi};
+use nas_elements::Capability;
 use toml::Value;
 
 /// The network of 5 or 6 digits under `plmn`.

@@ -1,7 +1,7 @@
 //! What a world is made of.
 
-use nas_elements::Capability;
 use nas_base::{Memory, Plmn, Supi};
+use nas_elements::Capability;
 use std::alloc::Global;
 use std::marker::Model;
 
