@@ -38,6 +38,7 @@ mm_type FiveGmmStatus = 0x64
 mm_type UlNasTransport = 0x67
 mm_type DlNasTransport = 0x68
 
+-- the same table by type
 abbrev pub mm_kinds : List (ℕ × MmKind)
 mm_kinds =
     (0x41, RegistrationRequest)
@@ -67,6 +68,7 @@ mm_kinds =
     ∷ (0x68, DlNasTransport)
     ∷ []
 
+-- the kind of a type
 abbrev pub mm_kind : ℕ → Option MmKind
 mm_kind code = kind_among mm_kinds code
 
@@ -86,6 +88,7 @@ sm_type PduSessionReleaseCommand = 0xd3
 sm_type PduSessionReleaseComplete = 0xd4
 sm_type FiveGsmStatus = 0xd6
 
+-- the same table by type
 abbrev pub sm_kinds : List (ℕ × SmKind)
 sm_kinds =
     (0xc1, PduSessionEstablishmentRequest)
@@ -103,6 +106,7 @@ sm_kinds =
     ∷ (0xd6, FiveGsmStatus)
     ∷ []
 
+-- the kind of a type
 abbrev pub sm_kind : ℕ → Option SmKind
 sm_kind code = kind_among sm_kinds code
 

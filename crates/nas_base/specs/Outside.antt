@@ -21,6 +21,7 @@ abbrev pub Tells : {T E : Type 0} → (E → Bool) → Option (List ℕ) → Opt
 Tells is_fault old new before now text (Ok _) = Appends old new text × (before ≤ now)
 Tells is_fault old new before now text (Err e) = AppendsFront old new text × MatchBool (is_fault e) (Rose before now) (before ≤ now)
 
+-- a write was refused by a fault of the sink
 abbrev pub is_failed : WriteRefusal → Bool
 is_failed Failed = true
 is_failed Memory = false

@@ -7,9 +7,11 @@ pub record PlmnIdentity : Type 0 where
   pub mcc : List ℕ
   pub mnc : List ℕ
 
+-- 3 digits of a country, 2 or 3 of a network
 abbrev pub is_plmn : List ℕ → List ℕ → Bool
 is_plmn mcc mnc = are_digits 3 3 mcc && are_digits 2 3 mnc
 
+-- the network of two codes, where they are such
 abbrev pub plmn_from : List ℕ → List ℕ → Option PlmnIdentity
 plmn_from mcc mnc = if is_plmn mcc mnc then Some (record { mcc = mcc; mnc = mnc }) else None
 

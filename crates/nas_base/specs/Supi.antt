@@ -4,6 +4,7 @@ use Rattle.std.specs.List.{starts_with}
 use Rattle.nas_base.specs.Digits.{are_digits}
 use Rattle.nas_base.specs.Plmn.{PlmnIdentity, plmn_digits}
 
+-- 15 digits
 abbrev pub supi_from : List ℕ → Option (List ℕ)
 supi_from ds = if are_digits 15 15 ds then Some ds else None
 

@@ -8,13 +8,14 @@ pub record RowParts : Type 0 where
   pub iei : ℕ
   pub form : Form
 
--- the identifier of a half is one whose low half is 0; a fixed number of octets counts the identifier
+-- a half has one of four identifiers; a fixed number of octets counts the identifier
 abbrev pub is_row : ℕ → Form → Bool
 is_row iei Half = iei == 0x80 || iei == 0x90 || iei == 0xA0 || iei == 0xD0
 is_row iei (Fixed n) = nat_le 1 n
 is_row iei Tlv = true
 is_row iei Tlve = true
 
+-- at most 32 rows
 abbrev pub shape_from : List RowParts → Option (List RowParts)
 shape_from rows = if nat_le (length rows) 32 then Some rows else None
 
@@ -23,6 +24,7 @@ abbrev pub form_of : List RowParts → ℕ → Option Form
 form_of [] iei = None
 form_of (row ∷ rows) iei = if row.iei == iei then Some row.form else form_of rows iei
 
+-- it is the form of a half
 abbrev pub is_half : Option Form → Bool
 is_half None = false
 is_half (Some Half) = true
@@ -38,15 +40,17 @@ high_of octet = 16 * (octet / 16)
 abbrev pub identifier_in : List RowParts → ℕ → ℕ
 identifier_in shape octet = if is_none (form_of shape octet) && is_half (form_of shape (high_of octet)) then high_of octet else octet
 
--- An identifier that no row has: one with bit 8 set is one octet long, one from 70 to 7F has a length of two octets, and
--- any other a length of one.
+-- How long an element is that no row tells of: from 80 on it is its identifier alone, in the seventies (70 to 7F) two octets
+-- of length follow, and below one does.
 abbrev pub unknown_form : ℕ → Form
 unknown_form iei = if nat_le 0x80 iei then Fixed 1 else (if nat_le 0x70 iei then Tlve else Tlv)
 
+-- a form, or another where there is none
 abbrev pub form_or : Option Form → Form → Form
 form_or None otherwise = otherwise
 form_or (Some form) otherwise = form
 
+-- the form of an identifier, known or unknown
 abbrev pub form_in : List RowParts → ℕ → Form
 form_in shape iei = form_or (form_of shape iei) (unknown_form iei)
 
@@ -77,9 +81,11 @@ cut iei form octets =
     then Some (record { iei = iei; value = drop (start_of form) (take (size_of form octets) octets); behind = drop (size_of form octets) octets })
     else None
 
+-- the element that begins the octets, if its identifier is this one
 abbrev pub head_as : List RowParts → ℕ → List ℕ → Option Head
 head_as shape iei octets = cut iei (form_in shape iei) octets
 
+-- the element that begins the octets, where there are any and it isn't cut
 abbrev pub head_of : List RowParts → List ℕ → Option Head
 head_of shape octets = if nat_lt 0 (length octets) then head_as shape (identifier_in shape (slice_index octets 0)) octets else None
 
@@ -88,6 +94,7 @@ pub record Element : Type 0 where
   pub iei : ℕ
   pub value : List ℕ
 
+-- the element of a head, then those behind it
 abbrev pub headed : (List ℕ → List Element) → Option Head → List Element
 headed rest None = []
 headed rest (Some h) = record { iei = h.iei; value = h.value } ∷ rest h.behind
@@ -97,6 +104,7 @@ abbrev pub elements_within : ℕ → List RowParts → List ℕ → List Element
 elements_within zero shape octets = []
 elements_within (suc n) shape octets = headed (elements_within n shape) (head_of shape octets)
 
+-- all that stand there: no element is shorter than one octet, so there are no more elements than octets
 abbrev pub elements_in : List RowParts → List ℕ → List Element
 elements_in shape octets = elements_within (length octets) shape octets
 
@@ -105,6 +113,7 @@ abbrev pub value_of : ℕ → List Element → Option (List ℕ)
 value_of iei [] = None
 value_of iei (e ∷ es) = if iei == e.iei then Some e.value else value_of iei es
 
+-- an element where there is one
 abbrev pub kept : ℕ → Option (List ℕ) → List Element → List Element
 kept iei None rest = rest
 kept iei (Some value) rest = record { iei = iei; value = value } ∷ rest

@@ -51,7 +51,7 @@ impl<'a> Slot<'a> {
     }
 }
 
-/// The first element of each row of the shape, in any order. An element that is cut ends the walk.
+/// The first element of each row of the shape, wherever it stands among the octets. The walk ends at an element that is cut.
 #[tactic(auto, using(crate::proofs::WalkLaws::taken_noted))]
 pub fn walk<'a>(octets: &'a [u8], shape: &Shape) -> Elements<'a>
     ensures { result ≡ firsts shape.now (elements_in shape.now octets.now) }
@@ -62,8 +62,8 @@ pub fn walk<'a>(octets: &'a [u8], shape: &Shape) -> Elements<'a>
 }
 
 impl<'a> Elements<'a> {
-    /// The value of an element without its identifier and length, for a `Half` the octet whose low half is the value; or
-    /// None exactly where it wasn't found.
+    /// What stands behind the identifier and the length of an element; of a `Half` the whole octet, in whose low half the value
+    /// lies. None exactly where the walk met no such element.
     pub fn get(&self, iei: u8) -> Option<&'a [u8]>
         ensures { option_map (λ v. v.now) result ≡ value_of iei self.now }
     {

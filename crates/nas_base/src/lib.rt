@@ -32,7 +32,6 @@ pub use crate::kind::Kind;
 pub use crate::ksi::Ksi;
 pub use crate::laws::{firsts_are_kept, kinds_have_types, written_are_read};
 pub use crate::memory::Memory;
-pub use crate::mm_cause::ILLEGAL_UE;
 pub use crate::mm_kind::MmKind;
 pub use crate::moment::Moment;
 pub use crate::octets::{Octets, Octets1M, OctetsRefusal};

@@ -1,5 +1,5 @@
 //! Want of memory.
 
-/// There was no memory left. Everything is then as it was before the call, or what was written is a front of the whole.
+/// There was no memory left. A call that answers so has changed nothing; one that writes has written a front of its text.
 #[derive(Clone, Copy, Debug, PartialEq, Eq)]
 pub struct Memory;

@@ -5,30 +5,55 @@ ghost use Rattle.nas_base.specs.Kinds.{mm_kind, mm_type};
 /// A kind of 5GMM message (TS 24.501 table 9.7.1).
 #[derive(Clone, Copy, Debug, PartialEq, Eq)]
 pub enum MmKind {
+    /// REGISTRATION REQUEST (type 41).
     RegistrationRequest,
+    /// REGISTRATION ACCEPT (type 42).
     RegistrationAccept,
+    /// REGISTRATION COMPLETE (type 43).
     RegistrationComplete,
+    /// REGISTRATION REJECT (type 44).
     RegistrationReject,
+    /// DEREGISTRATION REQUEST, which the handset began (type 45).
     DeregistrationRequestUeOriginating,
+    /// DEREGISTRATION ACCEPT, which the handset began (type 46).
     DeregistrationAcceptUeOriginating,
+    /// DEREGISTRATION REQUEST, which the network began (type 47).
     DeregistrationRequestUeTerminated,
+    /// DEREGISTRATION ACCEPT, which the network began (type 48).
     DeregistrationAcceptUeTerminated,
+    /// SERVICE REQUEST (type 4C).
     ServiceRequest,
+    /// SERVICE REJECT (type 4D).
     ServiceReject,
+    /// SERVICE ACCEPT (type 4E).
     ServiceAccept,
+    /// CONFIGURATION UPDATE COMMAND (type 54).
     ConfigurationUpdateCommand,
+    /// CONFIGURATION UPDATE COMPLETE (type 55).
     ConfigurationUpdateComplete,
+    /// AUTHENTICATION REQUEST (type 56).
     AuthenticationRequest,
+    /// AUTHENTICATION RESPONSE (type 57).
     AuthenticationResponse,
+    /// AUTHENTICATION REJECT (type 58).
     AuthenticationReject,
+    /// AUTHENTICATION FAILURE (type 59).
     AuthenticationFailure,
+    /// IDENTITY REQUEST (type 5B).
     IdentityRequest,
+    /// IDENTITY RESPONSE (type 5C).
     IdentityResponse,
+    /// SECURITY MODE COMMAND (type 5D).
     SecurityModeCommand,
+    /// SECURITY MODE COMPLETE (type 5E).
     SecurityModeComplete,
+    /// SECURITY MODE REJECT (type 5F).
     SecurityModeReject,
+    /// 5GMM STATUS (type 64).
     FiveGmmStatus,
+    /// UL NAS TRANSPORT (type 67).
     UlNasTransport,
+    /// DL NAS TRANSPORT (type 68).
     DlNasTransport,
 }
 

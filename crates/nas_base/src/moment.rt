@@ -24,7 +24,7 @@ impl Model for Moment {
 }
 
 impl Moment {
-    /// The moment `ms` milliseconds after the start. A greater number than 10^15 counts as 10^15.
+    /// The moment `ms` milliseconds after the start, or the last moment where that is earlier.
     pub fn at(ms: u64) -> Moment
         ensures { result ≡ min ms last_moment }
     {

@@ -43,6 +43,7 @@ impl Model for Octets1M {
 pub enum OctetsRefusal {
     /// There are more than the limit; `size` of them.
     TooMany { size: usize },
+    /// There was no memory left.
     Memory,
 }
 
@@ -53,7 +54,7 @@ impl Octets {
     ///
     /// # Errors
     ///
-    /// `TooMany` exactly above 4,100 octets; else `Memory`.
+    /// `TooMany` where there are more than 4,100, and only there; otherwise `Memory` may come.
     pub fn copy(alloc: Global, from: &[u8]) -> Result<Octets, OctetsRefusal>
         ensures { Copies 4100 from.now result }
     {

@@ -9,6 +9,7 @@ use std::alloc::Global;
 pub enum WriteRefusal {
     /// The sink failed, and its count of faults rose.
     Failed,
+    /// There was no memory left.
     Memory,
 }
 

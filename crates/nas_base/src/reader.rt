@@ -45,11 +45,18 @@ impl<'a> Reader<'a> {
         self.at
     }
 
+    /// The octets that are left, none of which is taken.
+    pub fn left(&self) -> &'a [u8]
+        ensures { result.now ≡ self.now.left }
+    {
+        &self.octets[self.at..]
+    }
+
     /// The next `n` octets.
     ///
     /// # Errors
     ///
-    /// `Short` exactly where fewer remain. The reader then stands where it stood; so after each `Short` here.
+    /// `Short` where fewer are left, and only there. No octet is taken then; nor is one at the other calls' `Short`.
     pub fn take(&mut self, n: usize) -> Result<&'a [u8], Short>
         ensures { Gives (λ v. v.now) result self.old self.new (octets_at n self.old) }
     {
@@ -66,6 +73,10 @@ impl<'a> Reader<'a> {
     }
 
     /// The next octet in two halves: bits 1 to 4, then bits 5 to 8.
+    ///
+    /// # Errors
+    ///
+    /// `Short` where no octet is left; `need` is 1.
     pub fn half(&mut self) -> Result<(u8, u8), Short>
         ensures { Gives (λ v. v) result self.old self.new (halves_at self.old) }
     {

@@ -10,7 +10,7 @@ use std::marker::Model;
 pub enum Form {
     /// The identifier in the high half of one octet, the value in its low half (type 1).
     Half,
-    /// So many octets in all, the identifier among them (types 2 and 3).
+    /// An identifier alone, or with a value behind it that has no length: so many octets together (types 2 and 3).
     Fixed(u8),
     /// The value behind the identifier and a length of one octet (type 4).
     #[default]
@@ -19,7 +19,8 @@ pub enum Form {
     Tlve,
 }
 
-/// An identifier, and the form of its element. That of a `Half` is 80, 90, A0 or D0, and `Fixed` has at least one octet.
+/// An identifier, and the form of its element. A `Half` has one of the identifiers 0x80, 0x90, 0xA0 and 0xD0, and `Fixed` at
+/// least one octet.
 #[derive(Clone, Copy, Debug, Default, PartialEq, Eq)]
 pub struct Row {
     pub iei: u8,
@@ -39,7 +40,7 @@ impl Model for Row {
     ghost inverse = { λ r. record { iei = r.iei; form = r.form } };
 }
 
-/// The elements of a message, at most 32. Of two rows with one identifier the first counts.
+/// The elements that a message may have, at most 32 rows. A row whose identifier stands in an earlier one has no effect.
 #[derive(Debug, Drop)]
 pub struct Shape {
     pub items: ArrayVec<Row, 32>,

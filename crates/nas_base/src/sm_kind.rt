@@ -5,18 +5,31 @@ ghost use Rattle.nas_base.specs.Kinds.{sm_kind, sm_type};
 /// A kind of 5GSM message (TS 24.501 table 9.7.2).
 #[derive(Clone, Copy, Debug, PartialEq, Eq)]
 pub enum SmKind {
+    /// PDU SESSION ESTABLISHMENT REQUEST (type C1).
     PduSessionEstablishmentRequest,
+    /// PDU SESSION ESTABLISHMENT ACCEPT (type C2).
     PduSessionEstablishmentAccept,
+    /// PDU SESSION ESTABLISHMENT REJECT (type C3).
     PduSessionEstablishmentReject,
+    /// PDU SESSION MODIFICATION REQUEST (type C9).
     PduSessionModificationRequest,
+    /// PDU SESSION MODIFICATION REJECT (type CA).
     PduSessionModificationReject,
+    /// PDU SESSION MODIFICATION COMMAND (type CB).
     PduSessionModificationCommand,
+    /// PDU SESSION MODIFICATION COMPLETE (type CC).
     PduSessionModificationComplete,
+    /// PDU SESSION MODIFICATION COMMAND REJECT (type CD).
     PduSessionModificationCommandReject,
+    /// PDU SESSION RELEASE REQUEST (type D1).
     PduSessionReleaseRequest,
+    /// PDU SESSION RELEASE REJECT (type D2).
     PduSessionReleaseReject,
+    /// PDU SESSION RELEASE COMMAND (type D3).
     PduSessionReleaseCommand,
+    /// PDU SESSION RELEASE COMPLETE (type D4).
     PduSessionReleaseComplete,
+    /// 5GSM STATUS (type D6).
     FiveGsmStatus,
 }
 

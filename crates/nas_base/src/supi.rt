@@ -25,7 +25,7 @@ impl Model for Supi {
 }
 
 impl Supi {
-    /// The identifier of these digits, or None exactly where they aren't 15.
+    /// The identifier of these digits, or None exactly where they aren't 15, or one of them is above 9.
     pub fn from_slice(digits: &[u8]) -> Option<Supi>
         ensures { result ≡ supi_from digits.now }
     {

@@ -68,7 +68,7 @@ impl Writer {
     ///
     /// # Errors
     ///
-    /// `Full` exactly where they don't fit; nothing is then written. So for each `Full` here.
+    /// `Full` where there isn't room for all of them, and only there; none is written then. So at the other calls.
     pub fn put(&mut self, octets: &[u8]) -> Result<(), Full>
         ensures { Writes octets.now self.old self.new result }
     {

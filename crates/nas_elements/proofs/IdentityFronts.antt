@@ -1,11 +1,11 @@
 -- Where octets stop being the front of an identity's.
-use Rattle.std.proofs.Common.{◌≡◌, ◌≤◌, ◌<◌, ◌+◌, ◌-◌, ◌%◌, ◌&&◌, ◌==◌, ℕ, Bool, true, false, min, max, nat_le, List, [], ◌∷◌, ◌++◌, length, take, drop, slice_index, Option, Some, None, is_some, if◌then◌else◌, arith, refl, sym, ap, ◌∙◌, subst}
+use Rattle.std.proofs.Common.{◌≡◌, ◌≤◌, ◌<◌, ◌+◌, ◌-◌, ◌%◌, ◌&&◌, ◌==◌, ℕ, Bool, true, false, min, max, nat_le, List, [], ◌∷◌, ◌++◌, length, take, drop, slice_index, Option, Some, None, option_map, is_some, if◌then◌else◌, arith, refl, sym, ap, ◌∙◌, subst}
 use Rattle.std.proofs.lemmas.Bool.Decides.{nat_tests}
 use Rattle.std.proofs.lemmas.Grind.{common_steps}
 use Rattle.std.proofs.Math.ListN.{replicate}
 use Rattle.std.proofs.lemmas.List.{append_assoc, get_or-append_right, get_or-replicate, length-replicate, take-append-drop, take-take}
 use Rattle.nas_elements.specs.Guti.{guti_in, stmsi_in, type_of_identity}
-use Rattle.nas_elements.specs.Identity.{identity_in, map}
+use Rattle.nas_elements.specs.Identity.{identity_in}
 use Rattle.nas_elements.specs.Other.{is_kept, is_other}
 use Rattle.nas_elements.specs.Reads.{IsWrongAt, StartsAValue}
 use Rattle.nas_elements.specs.Suci.{SuciParts, is_null_scheme, suci_in}
@@ -26,7 +26,7 @@ same_place {A} {B} inner outer octets at up down wrong = record {
   here = λ some starts. wrong.here some (starts_whole inner (take (at + 1) octets) starts.rest (down starts.rest (has_value starts.whole)));
 }
 
-pub some-map : {A B : Type 0} (f : A → B) (m : Option A) → is_some (map f m) ≡ is_some m
+pub some-map : {A B : Type 0} (f : A → B) (m : Option A) → is_some (option_map f m) ≡ is_some m
 some-map f None = refl
 some-map f (Some x) = refl
 
@@ -56,7 +56,7 @@ is_other_some octets h = rw h refl
 abbrev pub first : List ℕ → ℕ
 first octets = slice_index octets 0
 
-pub is_suci_first : (octets : List ℕ) → is_kept octets ≡ false → first octets ≡ 0x01 → identity_in octets ≡ map (λ s. Suci s) (suci_in octets)
+pub is_suci_first : (octets : List ℕ) → is_kept octets ≡ false → first octets ≡ 0x01 → identity_in octets ≡ option_map (λ s. Suci s) (suci_in octets)
 unfolding identity_in
 is_suci_first octets kept one = second (is_other octets) (first octets == 0x01) _ _ _ (not_other octets kept) (grind (arith, nat_tests, one))
 
@@ -66,12 +66,12 @@ kept_guti octets h = grind (arith, nat_tests, h)
 pub kept_stmsi : (octets : List ℕ) → type_of_identity octets ≡ 4 → is_kept octets ≡ false
 kept_stmsi octets h = grind (arith, nat_tests, h)
 
-pub is_guti : (octets : List ℕ) → type_of_identity octets ≡ 2 → identity_in octets ≡ map (λ g. GutiIdentity g) (guti_in octets)
+pub is_guti : (octets : List ℕ) → type_of_identity octets ≡ 2 → identity_in octets ≡ option_map (λ g. GutiIdentity g) (guti_in octets)
 unfolding identity_in
 is_guti octets h = third (is_other octets) (first octets == 0x01) (type_of_identity octets == 2) _ _ _ _ (not_other octets (kept_guti octets h))
     (grind (arith, nat_tests, h)) (grind (arith, nat_tests, h))
 
-pub is_stmsi : (octets : List ℕ) → type_of_identity octets ≡ 4 → identity_in octets ≡ map (λ s. StmsiIdentity s) (stmsi_in octets)
+pub is_stmsi : (octets : List ℕ) → type_of_identity octets ≡ 4 → identity_in octets ≡ option_map (λ s. StmsiIdentity s) (stmsi_in octets)
 unfolding identity_in
 is_stmsi octets h = fourth (is_other octets) (first octets == 0x01) (type_of_identity octets == 2) _ _ _ _ (not_other octets (kept_stmsi octets h))
     (grind (arith, nat_tests, h)) (grind (arith, nat_tests, h))
@@ -92,7 +92,7 @@ same_octet octets rest i n some more = grind (arith, common_steps)
 pub wrong_as_guti : (octets : List ℕ) (at : ℕ) → type_of_identity octets ≡ 2 → 0 < length octets
     → (guti_in octets ≡ None) × IsWrongAt guti_in octets at → (identity_in octets ≡ None) × IsWrongAt identity_in octets at
 wrong_as_guti octets at kind some wrong = (
-  is_guti octets kind ∙ ap (map (λ g. GutiIdentity g)) wrong.0,
+  is_guti octets kind ∙ ap (option_map (λ g. GutiIdentity g)) wrong.0,
   same_place guti_in identity_in octets at
       (λ os h. rw (is_guti os (guti_kind os h), some-map (λ g. GutiIdentity g) (guti_in os)) h)
       (λ rest h. let kinds = ap (λ o. o % 8) (same_octet octets rest 0 (at + 1) some (omega arith)) ∙ kind in
@@ -103,7 +103,7 @@ wrong_as_guti octets at kind some wrong = (
 pub wrong_as_stmsi : (octets : List ℕ) (at : ℕ) → type_of_identity octets ≡ 4 → 0 < length octets
     → (stmsi_in octets ≡ None) × IsWrongAt stmsi_in octets at → (identity_in octets ≡ None) × IsWrongAt identity_in octets at
 wrong_as_stmsi octets at kind some wrong = (
-  is_stmsi octets kind ∙ ap (map (λ s. StmsiIdentity s)) wrong.0,
+  is_stmsi octets kind ∙ ap (option_map (λ s. StmsiIdentity s)) wrong.0,
   same_place stmsi_in identity_in octets at
       (λ os h. rw (is_stmsi os (stmsi_kind os h), some-map (λ s. StmsiIdentity s) (stmsi_in os)) h)
       (λ rest h. let kinds = ap (λ o. o % 8) (same_octet octets rest 0 (at + 1) some (omega arith)) ∙ kind in
@@ -155,7 +155,7 @@ pub wrong_as_suci : (octets : List ℕ) (at : ℕ) → first octets ≡ 0x01 →
     → (suci_in octets ≡ None) × IsWrongAt suci_in octets at
     → (identity_in octets ≡ None) × IsWrongAt identity_in octets (max at (min (length octets) 6))
 wrong_as_suci octets at one some kept wrong = (
-  is_suci_first octets kept one ∙ ap (map (λ s. Suci s)) wrong.0,
+  is_suci_first octets kept one ∙ ap (option_map (λ s. Suci s)) wrong.0,
   record {
     within = let w = wrong.1.within in omega arith;
     before = go (nat_le at (min (length octets) 6)) refl;
@@ -228,13 +228,13 @@ wrong_empty (o ∷ octets) none = grind (arith, none)
 -- the value of an identity is the value that its octets have
 pub suci_identity : (octets : List ℕ) (s : SuciParts) → suci_in octets ≡ Some s → identity_in octets ≡ Some (Suci s)
 suci_identity octets s h = let b = suci_first octets (has_value h) in
-    is_suci_first octets (null_scheme_follows octets b.0 b.1) b.0 ∙ ap (map (λ s. Suci s)) h
+    is_suci_first octets (null_scheme_follows octets b.0 b.1) b.0 ∙ ap (option_map (λ s. Suci s)) h
 
 pub guti_identity : (octets : List ℕ) (g : Guti) → guti_in octets ≡ Some g → identity_in octets ≡ Some (GutiIdentity g)
-guti_identity octets g h = is_guti octets (guti_kind octets (has_value h)) ∙ ap (map (λ g. GutiIdentity g)) h
+guti_identity octets g h = is_guti octets (guti_kind octets (has_value h)) ∙ ap (option_map (λ g. GutiIdentity g)) h
 
 pub stmsi_identity : (octets : List ℕ) (s : Stmsi) → stmsi_in octets ≡ Some s → identity_in octets ≡ Some (StmsiIdentity s)
-stmsi_identity octets s h = is_stmsi octets (stmsi_kind octets (has_value h)) ∙ ap (map (λ s. StmsiIdentity s)) h
+stmsi_identity octets s h = is_stmsi octets (stmsi_kind octets (has_value h)) ∙ ap (option_map (λ s. StmsiIdentity s)) h
 
 pub other_identity : (octets : List ℕ) → is_other octets ≡ true → identity_in octets ≡ Some (Other octets)
 unfolding identity_in

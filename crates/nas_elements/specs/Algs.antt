@@ -6,7 +6,7 @@ pub record Algorithms : Type 0 where
   pub nea : ℕ
   pub nia : ℕ
 
--- one octet: ciphering in bits 5 to 8, integrity in bits 1 to 4
+-- one octet: the ciphering algorithm in the high half, integrity in bits 1 to 4
 abbrev pub algs_in : List ℕ → Option Algorithms
 algs_in (octet ∷ []) = Some (record { nea = octet / 16; nia = octet % 16 })
 algs_in octets = None

@@ -5,7 +5,7 @@ use Rattle.nas_elements.specs.Packed.{◌>>=◌, plmn_in, plmn_octets}
 use Rattle.nas_elements.specs.declared.guti.Guti.{Guti}
 use Rattle.nas_elements.specs.declared.guti.Stmsi.{Stmsi}
 
--- type of identity 2, the bits above it set; the network; region; set and pointer; 5G-TMSI
+-- type of identity 2 under a high half F; the network; region; set and pointer; 5G-TMSI
 abbrev pub guti_octets : Guti → List ℕ
 guti_octets g = (0xf2 ∷ plmn_octets g.plmn) ++ (g.region ∷ (big_bytes 2 g.set_pointer ++ big_bytes 4 g.tmsi))
 
@@ -13,6 +13,7 @@ guti_octets g = (0xf2 ∷ plmn_octets g.plmn) ++ (g.region ∷ (big_bytes 2 g.se
 abbrev pub type_of_identity : List ℕ → ℕ
 type_of_identity octets = slice_index octets 0 % 8
 
+-- 11 octets, of which the first tells the type
 abbrev pub guti_in : List ℕ → Option Guti
 guti_in octets =
     if length octets == 11 && type_of_identity octets == 2 then (do
@@ -25,10 +26,11 @@ guti_in octets =
       }))
     else None
 
--- type of identity 4, the bits above it set; set and pointer; 5G-TMSI
+-- type of identity 4 under a high half F; set and pointer; 5G-TMSI
 abbrev pub stmsi_octets : Stmsi → List ℕ
 stmsi_octets s = 0xf4 ∷ (big_bytes 2 s.set_pointer ++ big_bytes 4 s.tmsi)
 
+-- 7 octets
 abbrev pub stmsi_in : List ℕ → Option Stmsi
 stmsi_in octets =
     if length octets == 7 && type_of_identity octets == 4

@@ -6,6 +6,7 @@ use Rattle.nas_base.specs.Plmn.{PlmnIdentity, plmn_from}
 abbrev pub filler : ℕ
 filler = 15
 
+-- an octet of two halves
 abbrev pub two_halves : ℕ → ℕ → ℕ
 two_halves low high = low + 16 * high
 
@@ -34,6 +35,7 @@ plmn_octets p =
     two_halves (slice_index p.mcc 0) (slice_index p.mcc 1) ∷ two_halves (slice_index p.mcc 2) (third_digit p.mnc)
     ∷ two_halves (slice_index p.mnc 0) (slice_index p.mnc 1) ∷ []
 
+-- the network in three octets, if they hold one
 abbrev pub plmn_in : ℕ → ℕ → ℕ → Option PlmnIdentity
 plmn_in a b c =
     plmn_from (a % 16 ∷ a / 16 ∷ b % 16 ∷ [])

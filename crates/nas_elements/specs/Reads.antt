@@ -2,7 +2,8 @@
 use Rattle.std.specs.Prelude.{◌≡◌, ◌<◌, ◌≤◌, ◌+◌, ℕ, List, ◌++◌, length, take, Option, Some, None, Result, Ok, Err}
 use Rattle.nas_elements.specs.declared.wrong.Wrong.{Wrong}
 
--- A reading says which value octets have, if one has them. So these octets are the front of some value's octets.
+-- A reading says which value octets have, or that they have none. A front of octets starts a value where some octets can follow
+-- it so that all of them together have one.
 pub record StartsAValue {A : Type 0} (reading : List ℕ → Option A) (front : List ℕ) : Type 0 where
   pub rest : List ℕ
   pub value : A
@@ -15,6 +16,7 @@ pub record IsWrongAt {A : Type 0} (reading : List ℕ → Option A) (octets : Li
   pub before : StartsAValue reading (take at octets)
   pub here : at < length octets → StartsAValue reading (take (at + 1) octets) → ⊥
 
+-- what a reader answered: the value, or the place where there is none
 abbrev pub Reads : {A : Type 0} → (List ℕ → Option A) → List ℕ → Result A Wrong → Type 0
 Reads reading octets (Ok value) = reading octets ≡ Some value
 Reads reading octets (Err wrong) = (reading octets ≡ None) × IsWrongAt reading octets wrong.at

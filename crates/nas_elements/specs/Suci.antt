@@ -5,6 +5,7 @@ use Rattle.nas_base.specs.Digits.{are_digits, digits_between}
 use Rattle.nas_base.specs.Plmn.{PlmnIdentity}
 use Rattle.nas_elements.specs.Packed.{◌>>=◌, halves_of, packed, plmn_in, plmn_octets, unfilled}
 
+-- the network, the routing indicator and the MSIN of a SUCI
 pub record SuciParts : Type 0 where
   pub plmn : PlmnIdentity
   pub routing : List ℕ
@@ -22,13 +23,14 @@ routing_octets routing = take 2 (packed routing ++ 0xff ∷ [])
 abbrev pub suci_octets : SuciParts → List ℕ
 suci_octets s = (0x01 ∷ plmn_octets s.plmn) ++ (routing_octets s.routing ++ (0x00 ∷ 0x00 ∷ packed s.msin))
 
--- up to three fillers stand behind the digits of a routing indicator, and one behind those of an MSIN
+-- up to three fillers stand behind the digits of a routing indicator, and at most one behind those of an MSIN
 abbrev pub routing_in : List ℕ → Option (List ℕ)
 routing_in octets = digits_between 1 4 (unfilled (unfilled (unfilled (halves_of octets))))
 
 abbrev pub msin_in : List ℕ → Option (List ℕ)
 msin_in octets = digits_between 1 10 (unfilled (halves_of octets))
 
+-- each part from its octets
 abbrev pub parts : List ℕ → Option SuciParts
 parts octets = do
   plmn ← plmn_in (slice_index octets 1) (slice_index octets 2) (slice_index octets 3)
@@ -41,5 +43,6 @@ abbrev pub is_null_scheme : List ℕ → Bool
 is_null_scheme octets =
     nat_le 8 (length octets) && slice_index octets 0 == 0x01 && slice_index octets 6 == 0 && slice_index octets 7 == 0
 
+-- the SUCI in the octets, if there is one
 abbrev pub suci_in : List ℕ → Option SuciParts
 suci_in octets = if is_null_scheme octets then parts octets else None

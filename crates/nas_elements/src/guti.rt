@@ -30,7 +30,7 @@ pub struct Stmsi {
     pub tmsi: u32,
 }
 
-// Type of identity 2 and 4, the bits above it set.
+// Types of identity 2 and 4 under a high half F.
 const GUTI: u8 = 0xf2;
 
 const STMSI: u8 = 0xf4;

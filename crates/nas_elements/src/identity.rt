@@ -16,7 +16,9 @@ use std::alloc::Global;
 pub enum Identity {
     /// A SUCI of an IMSI under the null scheme.
     Suci(Suci),
+    /// A 5G-GUTI.
     Guti(Guti),
+    /// A 5G-S-TMSI.
     Stmsi(Stmsi),
     /// Any other identity, as its octets: another scheme, another SUPI format, another type.
     Other(OtherIdentity),
@@ -27,6 +29,7 @@ pub enum Identity {
 pub enum IdentityRefusal {
     /// No identity has them; `at` is as in `Wrong`.
     Wrong { at: usize },
+    /// There was no memory left to keep the octets.
     Memory,
 }
 

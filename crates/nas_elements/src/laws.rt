@@ -66,29 +66,29 @@ pub fn identity_is_read_back(identity: &Identity)
     }
 }
 
-/// So are algorithms.
+/// Algorithms that are written are read back.
 pub fn algs_are_read_back(algs: Algs)
     ensures { algs_in (algs_octets algs) ≡ Some algs }
 {}
 
-/// So is a tracking area identity list.
+/// A tracking area identity list that is written is read back.
 pub fn tai_list_is_read_back(list: &TaiList)
     ensures { tai_list_in list.now ≡ Some list.now }
 {
     let _items = &list.items;
 }
 
-/// So is a timer.
+/// A timer that is written is read back.
 pub fn timer3_is_read_back(timer: Timer3)
     ensures { timer3_in (timer3_octets timer) ≡ Some timer }
 {}
 
-/// So is additional security information.
+/// Additional security information that is written is read back.
 pub fn asi_is_read_back(information: Asi)
     ensures { asi_in (asi_octets information) ≡ Some information }
 {}
 
-/// So is a set of sessions.
+/// A set of sessions that is written is read back.
 #[tactic(auto, using(crate::proofs::StatusLemmas::status_read_back))]
 pub fn status_is_read_back(status: Status)
     ensures { status_in (status_octets status) ≡ Some status }

@@ -46,8 +46,7 @@ fn is_one_or_two_digits(octet: u8) -> bool
     octet % 16 < 10 && (octet / 16 < 10 || octet / 16 == FILLER)
 }
 
-/// How many octets meet their lines, up to the first that doesn't: the place where octets stop being the front of a
-/// value's, where a value has so many lines.
+/// How many octets meet their lines, up to the first that doesn't, or to the end of the octets or of the lines.
 #[tactic(auto, using(crate::proofs::LayoutLaws::met_none))]
 pub fn met_by(lines: &[Line], octets: &[u8]) -> usize
     ensures { result ≡ met 0 lines.now octets.now }

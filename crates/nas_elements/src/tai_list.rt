@@ -2,11 +2,12 @@
 ghost use Rattle.std.specs.Prelude.{◌≡◌, ◌≤◌, length};
 ghost use Rattle.nas_base.specs.Writing.{Writes};
 ghost use Rattle.nas_elements.specs.Reads.{Reads};
-ghost use Rattle.nas_elements.specs.TaiList.{tai_list_in};
+ghost use Rattle.nas_elements.specs.TaiList.{one_area, tai_list_in};
 
 use crate::Wrong;
+use crate::packed::plmn_to;
 use arrayvec::ArrayVec;
-use nas_base::{Full, Writer};
+use nas_base::{Full, Plmn, Writer};
 use std::marker::Model;
 
 const LEAST: usize = 7;
@@ -72,6 +73,17 @@ impl TaiList {
             Ok(()) => Some(TaiList { items }),
             Err(_) => None,
         }
+    }
+
+    /// The list of one tracking area: its network, and its code (TS 24.501 figure 9.11.3.9.2).
+    pub fn of_one_area(plmn: &Plmn, tac: &[u8; 3]) -> TaiList
+        ensures { result ≡ one_area plmn.now tac.now }
+    {
+        let mut items = ArrayVec::new();
+        items.push(0);
+        items.try_extend_from_slice(&plmn_to(plmn)).unwrap();
+        items.try_extend_from_slice(tac).unwrap();
+        TaiList { items }
     }
 
     /// The octets in order.

@@ -7,8 +7,8 @@ use crate::Wrong;
 use nas_base::{Full, Writer};
 use std::marker::Model;
 
-/// A GPRS timer 3: `value`, 0 to 31, times its unit. The units are 0 ten minutes, 1 one hour, 2 ten hours, 3 two seconds,
-/// 4 thirty seconds, 5 one minute, 6 320 hours; 7 tells that the timer is deactivated (TS 24.008 clause 10.5.7.4a).
+/// A GPRS timer 3: a `value` of 0 to 31 in a `unit` of 0 to 7. Units 3, 4 and 5 are 2 s, 30 s and 1 min, unit 0 is 10 min,
+/// 1, 2 and 6 are 1 h, 10 h and 320 h, and unit 7 says that the timer doesn't run (TS 24.008 clause 10.5.7.4a).
 #[derive(Clone, Copy, Debug, PartialEq, Eq)]
 pub struct Timer3 {
     pub unit: u8,

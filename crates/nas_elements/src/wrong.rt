@@ -1,7 +1,7 @@
 //! Octets of which no value was read.
 
-/// No value has the octets. `at` is the least place, counted from 0, where no value's octets start with those up to and
-/// with that place; where all of them start some value's octets, it is their number.
+/// No value has the octets. Up to the place `at`, counted from 0, they could still have become a value's; with the octet at
+/// that place they no longer can. Where they just end too early, `at` is their number.
 #[derive(Clone, Copy, Debug, PartialEq, Eq)]
 pub struct Wrong {
     pub at: usize,

@@ -4,7 +4,8 @@ ghost use Rattle.mm_messages.specs.Messages.{mm_in, spelling};
 ghost use Rattle.nas_world.specs.World.{answer_to};
 
 use mm_messages::{Mm, MmRefusal, decode_mm};
-use nas_base::{ILLEGAL_UE, Memory};
+use nas_base::Memory;
+use nas_base::mm_cause::ILLEGAL_UE;
 use std::alloc::Global;
 
 /// Its answer to octets that are delivered to it.
