@@ -1,0 +1,49 @@
+//! Reading what stands behind the head of a message.
+ghost use Rattle.std.specs.Prelude.{◌≡◌};
+ghost use Rattle.nas_layout.specs.Layout.{Cuts, valued};
+
+use crate::Frame;
+use nas_base::Reader;
+
+/// Why octets are not the body of a message.
+#[derive(Clone, Copy, Debug, PartialEq, Eq)]
+pub enum BodyRefusal {
+    /// The mandatory part `part`, counted from 1, is the first that is cut or has no value. It starts at `at`.
+    Mandatory { part: u8, at: usize },
+    /// There was no memory left.
+    Memory,
+}
+
+/// The octets of the next part, without their length.
+///
+/// # Errors
+///
+/// `Mandatory` where the part is cut, and only there; the reader then stands where it stood.
+pub fn cut<'a>(part: u8, frame: Frame, reader: &mut Reader<'a>) -> Result<&'a [u8], BodyRefusal>
+    ensures { Cuts (λ octets. octets.now) part frame reader.old reader.new result }
+{
+    let at = reader.place();
+    let octets = match frame {
+        Frame::V(n) => reader.take(n),
+        Frame::Lv => reader.lv(),
+        Frame::Lve => reader.lve(),
+    };
+    match octets {
+        Ok(octets) => Ok(octets),
+        Err(_) => Err(BodyRefusal::Mandatory { part, at }),
+    }
+}
+
+/// The value of a part that began at this place, where it has one.
+///
+/// # Errors
+///
+/// `Mandatory` where it has none.
+pub fn value<X, W: Drop>(part: u8, at: usize, read: Result<X, W>) -> Result<X, BodyRefusal>
+    ensures { result ≡ valued part at read }
+{
+    match read {
+        Ok(value) => Ok(value),
+        Err(_) => Err(BodyRefusal::Mandatory { part, at }),
+    }
+}
