@@ -1,30 +1,55 @@
--- The head of a message, and its mandatory parts, which are counted from 1 (TS 24.501 clauses 9.2, 9.3 and 9.7).
-use Rattle.std.specs.Prelude.{◌≡◌, ℕ, List, [], ◌∷◌, Option, Some, None, Result, Ok, Err}
-use Rattle.nas_base.specs.Reading.{Place, Reads}
-use Rattle.mm_messages.specs.declared.message.MmRefusal.{MmRefusal}
-use Rattle.mm_messages.specs.declared.message.MmRefusal.TheVariants.{Mandatory, Memory}
+-- What the parts and elements of 5GMM messages read as, where that is no element of its own (TS 24.501 clause 9.11.3).
+use Rattle.std.specs.Prelude.{ℕ, ◌+◌, ◌*◌, ◌/◌, ◌%◌, Bool, true, false, List, [], ◌∷◌, length, slice_index, nat_le, ◌==◌, Option, Some, None, if◌then◌else◌}
+use Rattle.mm_messages.specs.declared.registration.RegistrationType.{RegistrationType}
+use Rattle.mm_messages.specs.declared.registration.RegistrationType.TheVariants.{Initial, Mobility, Periodic, Emergency}
 
--- 5GMM's extended protocol discriminator, header type 0 of a plain message, the message type
+-- 5GMM's extended protocol discriminator, header type 0 of a plain message, the message type (clauses 9.2, 9.3 and 9.7)
 abbrev pub head : ℕ → List ℕ
 head kind = 0x7e ∷ 0x00 ∷ kind ∷ []
 
-infixl 10 ◌>>=◌
-abbrev pub ◌>>=◌ : {A B : Type 0} → Result A MmRefusal → (A → Result B MmRefusal) → Result B MmRefusal
-(Ok x) >>= f = f x
-(Err e) >>= f = Err e
+-- the one octet of a part or of an element of fixed length: any
+abbrev pub octet_in : List ℕ → Option ℕ
+octet_in octets = Some (slice_index octets 0)
 
--- a part that is cut is named with the place where it starts
-abbrev pub part : {A : Type 0} → ℕ → Reads A → Result (A × Place) MmRefusal
-part n (Ok x) = Ok x
-part n (Err short) = Err (Mandatory n short.at)
+-- the two halves of an octet: bits 1 to 4, and bits 5 to 8
+abbrev pub low_half : ℕ → ℕ
+low_half octet = octet % 16
 
--- and so is one that has no value
-abbrev pub value : {A : Type 0} → ℕ → ℕ → Option A → Result A MmRefusal
-value n at None = Err (Mandatory n at)
-value n at (Some x) = Ok x
+abbrev pub high_half : ℕ → ℕ
+high_half octet = octet / 16
 
--- what a decoder answered
-abbrev pub Decodes : {A : Type 0} → Result A MmRefusal → Result A MmRefusal → Type 0
-Decodes (Ok x) read = read ≡ Ok x
-Decodes (Err Memory) read = Unit {0}
-Decodes (Err e) read = read ≡ Err e
+-- ngKSI in a half: bits 1 to 3 (clause 9.11.3.32)
+abbrev pub ksi_of : ℕ → ℕ
+ksi_of half = half % 8
+
+-- 5GS registration type in a half: bits 1 to 3. All other values are read as initial registration (clause 9.11.3.7).
+abbrev pub registration_type_code : RegistrationType → ℕ
+registration_type_code Initial = 1
+registration_type_code Mobility = 2
+registration_type_code Periodic = 3
+registration_type_code Emergency = 4
+
+abbrev pub registration_type_of : ℕ → RegistrationType
+registration_type_of half =
+    if half % 8 == 2 then Mobility else (if half % 8 == 3 then Periodic else (if half % 8 == 4 then Emergency else Initial))
+
+-- bit 4 of the same half: a request is to follow; it is always written, and passed over
+abbrev pub follow_on : ℕ
+follow_on = 8
+
+-- de-registration type in a half: bit 4 tells a switch off; bits 1 and 2, the access, are always written as 3GPP access (1) and
+-- passed over (clause 9.11.3.20)
+abbrev pub is_switch_off : ℕ → Bool
+is_switch_off half = nat_le 8 (half % 16)
+
+abbrev pub deregistration_code : Bool → ℕ
+deregistration_code switch_off = if switch_off then 9 else 1
+
+-- a container of any octets, up to as many as are kept (clause 9.11.3.39), and a whole message (clause 9.11.3.33)
+abbrev pub container_in : List ℕ → Option (List ℕ)
+container_in octets = if nat_le (length octets) 4100 then Some octets else None
+
+-- a result of exactly one octet (clause 9.11.3.6)
+abbrev pub result_in : List ℕ → Option ℕ
+result_in (octet ∷ []) = Some octet
+result_in octets = None

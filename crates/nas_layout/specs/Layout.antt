@@ -1,6 +1,6 @@
 -- How a message is laid out behind its head: mandatory parts, each in its frame, then elements in any order (TS 24.007 clauses
 -- 11.2.1.1 and 11.2.4). The table of a message is a value of `Layout`.
-use Rattle.std.specs.Prelude.{◌≡◌, ◌≤◌, ℕ, suc, List, [], ◌∷◌, ◌++◌, length, Option, Some, None, Result, Ok, Err, IsErr}
+use Rattle.std.specs.Prelude.{◌≡◌, ◌≤◌, ℕ, suc, List, [], ◌++◌, length, Option, Some, None, Result, Ok, Err}
 use Rattle.nas_base.specs.Reading.{Place, Reads, lv_at, lve_at, octets_at}
 use Rattle.nas_base.specs.Walking.{Element, RowParts, elements_in, firsts, value_of}
 use Rattle.nas_base.specs.Writing.{lv, lve}
@@ -24,19 +24,30 @@ cut_at (V n) p = octets_at n p
 cut_at Lv p = lv_at p
 cut_at Lve p = lve_at p
 
--- the n-th part, which began at this place, where it isn't cut
-abbrev pub cut : {A : Type 0} → ℕ → ℕ → Reads (List ℕ) → (List ℕ × Place → Result A BodyRefusal) → Result A BodyRefusal
-cut n at (Ok x) next = next x
-cut n at (Err short) next = Err (Mandatory n at)
+-- a step, and another behind it
+infixl 10 ◌>>=◌
+abbrev pub ◌>>=◌ : {A B : Type 0} → Result A BodyRefusal → (A → Result B BodyRefusal) → Result B BodyRefusal
+(Ok x) >>= f = f x
+(Err e) >>= f = Err e
 
--- and its value, where it has one
-abbrev pub value : {P A : Type 0} → ℕ → ℕ → Option P → (P → Result A BodyRefusal) → Result A BodyRefusal
-value n at (Some x) next = next x
-value n at None next = Err (Mandatory n at)
+-- the n-th part, which began at this place, where it isn't cut; and its value, where it has one
+abbrev pub uncut : {A : Type 0} → ℕ → ℕ → Reads A → Result (A × Place) BodyRefusal
+uncut n at (Ok x) = Ok x
+uncut n at (Err short) = Err (Mandatory n at)
+
+abbrev pub valued : {P : Type 0} → ℕ → ℕ → Option P → Result P BodyRefusal
+valued n at (Some x) = Ok x
+valued n at None = Err (Mandatory n at)
+
+abbrev pub part_at : {P : Type 0} → ℕ → Frame → (List ℕ → Option P) → Place → Result (P × Place) BodyRefusal
+part_at n frame reading p = do
+  octets ← uncut n p.at (cut_at frame p)
+  x ← valued n p.at (reading octets.0)
+  Ok (x, octets.1)
 
 -- What stands at a place: the message, or the first part that is cut or has no value, counted from n.
 abbrev pub laid : {A : Type 0} → Layout A → ℕ → Place → Result A BodyRefusal
-laid (part frame reading next) n p = cut n p.at (cut_at frame p) (λ c. value n p.at (reading c.0) (λ x. laid (next x) (suc n) c.1))
+laid (part frame reading next) n p = part_at n frame reading p >>= (λ x. laid (next x.0) (suc n) x.1)
 laid (elements shape made) n p = Ok (made (firsts shape (elements_in shape p.left)))
 
 -- an element: what its octets read as, where it is there
@@ -79,12 +90,21 @@ Lays (Ok message) read = read ≡ Ok message
 Lays (Err Memory) read = Unit {0}
 Lays (Err (Mandatory n at)) read = read ≡ Err (Mandatory n at)
 
--- what became of a part that was to be cut off: its octets and the place behind it, or the refusal, and then nothing was taken
-abbrev pub Cuts : {X : Type 0} → (X → List ℕ) → ℕ → Frame → Place → Place → Result X BodyRefusal → Type 0
-Cuts octets_of n frame old new (Ok x) = cut_at frame old ≡ Ok (octets_of x, new)
-Cuts octets_of n frame old new (Err e) = IsErr (cut_at frame old) × (e ≡ Mandatory n old.at) × (new ≡ old)
+-- what became of a part that was to be read: its value, and where the reader stands then, or the refusal
+abbrev pub Takes : {P : Type 0} → Result P BodyRefusal → Place → Result (P × Place) BodyRefusal → Type 0
+Takes (Ok x) new read = read ≡ Ok (x, new)
+Takes (Err Memory) new read = Unit {0}
+Takes (Err (Mandatory n at)) new read = read ≡ Err (Mandatory n at)
 
--- the value of a part that was read, or the refusal that names it
-abbrev pub valued : {X W : Type 0} → ℕ → ℕ → Result X W → Result X BodyRefusal
-valued n at (Ok x) = Ok x
-valued n at (Err w) = Err (Mandatory n at)
+-- the same of borrowed octets, seen by a view
+abbrev pub Cuts : {X : Type 0} → (X → List ℕ) → Result X BodyRefusal → Place → Result (List ℕ × Place) BodyRefusal → Type 0
+Cuts view (Ok x) new read = read ≡ Ok (view x, new)
+Cuts view (Err e) new read = read ≡ Err e
+
+-- the octets of a part as they are, and a value that was read of them
+abbrev pub as_it_is : List ℕ → Option (List ℕ)
+as_it_is octets = Some octets
+
+abbrev pub named : {X W : Type 0} → ℕ → ℕ → Result X W → Result X BodyRefusal
+named n at (Ok x) = Ok x
+named n at (Err w) = Err (Mandatory n at)

@@ -1,6 +1,6 @@
 //! Reading what stands behind the head of a message.
 ghost use Rattle.std.specs.Prelude.{◌≡◌};
-ghost use Rattle.nas_layout.specs.Layout.{Cuts, valued};
+ghost use Rattle.nas_layout.specs.Layout.{Cuts, as_it_is, named, part_at};
 
 use crate::Frame;
 use nas_base::Reader;
@@ -18,9 +18,9 @@ pub enum BodyRefusal {
 ///
 /// # Errors
 ///
-/// `Mandatory` where the part is cut, and only there; the reader then stands where it stood.
+/// `Mandatory` where the part is cut, and only there.
 pub fn cut<'a>(part: u8, frame: Frame, reader: &mut Reader<'a>) -> Result<&'a [u8], BodyRefusal>
-    ensures { Cuts (λ octets. octets.now) part frame reader.old reader.new result }
+    ensures { Cuts (λ octets. octets.now) result reader.new (part_at part frame as_it_is reader.old) }
 {
     let at = reader.place();
     let octets = match frame {
@@ -40,7 +40,7 @@ pub fn cut<'a>(part: u8, frame: Frame, reader: &mut Reader<'a>) -> Result<&'a [u
 ///
 /// `Mandatory` where it has none.
 pub fn value<X, W: Drop>(part: u8, at: usize, read: Result<X, W>) -> Result<X, BodyRefusal>
-    ensures { result ≡ valued part at read }
+    ensures { result ≡ named part at read }
 {
     match read {
         Ok(value) => Ok(value),
