@@ -1,3 +1,13 @@
+pub mod Authentication
+pub mod ConfigurationUpdate
+pub mod Deregistration
+pub mod Elements
+pub mod Identification
 pub mod Messages
 pub mod Parts
 pub mod Registration
+pub mod Rows
+pub mod SecurityMode
+pub mod Service
+pub mod StatusMessage
+pub mod Transport

@@ -1,5 +1,5 @@
 -- What the parts and elements of 5GMM messages read as, where that is no element of its own (TS 24.501 clause 9.11.3).
-use Rattle.std.specs.Prelude.{ℕ, ◌+◌, ◌*◌, ◌/◌, ◌%◌, Bool, true, false, List, [], ◌∷◌, length, slice_index, nat_le, ◌==◌, Option, Some, None, if◌then◌else◌}
+use Rattle.std.specs.Prelude.{ℕ, ◌/◌, ◌%◌, Bool, List, [], ◌∷◌, length, slice_index, nat_le, ◌==◌, Option, Some, None, if◌then◌else◌}
 use Rattle.mm_messages.specs.declared.registration.RegistrationType.{RegistrationType}
 use Rattle.mm_messages.specs.declared.registration.RegistrationType.TheVariants.{Initial, Mobility, Periodic, Emergency}
 
@@ -10,6 +10,9 @@ head kind = 0x7e ∷ 0x00 ∷ kind ∷ []
 -- the one octet of a part or of an element of fixed length: any
 abbrev pub octet_in : List ℕ → Option ℕ
 octet_in octets = Some (slice_index octets 0)
+
+abbrev pub one_octet : ℕ → List ℕ
+one_octet octet = octet ∷ []
 
 -- the two halves of an octet: bits 1 to 4, and bits 5 to 8
 abbrev pub low_half : ℕ → ℕ
@@ -53,3 +56,7 @@ container_in octets = if nat_le (length octets) 4100 then Some octets else None
 abbrev pub result_in : List ℕ → Option ℕ
 result_in (octet ∷ []) = Some octet
 result_in octets = None
+
+-- so many octets and no others
+abbrev pub exactly : ℕ → List ℕ → Option (List ℕ)
+exactly n octets = if length octets == n then Some octets else None

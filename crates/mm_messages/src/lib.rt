@@ -1,11 +1,20 @@
 //! The messages of 5GS mobility management (5GMM), between octets and values (TS 24.501 clause 8.2).
-//!
-//! So far there are REGISTRATION REQUEST, of which the elements behind the identity are written and not read, and
-//! REGISTRATION REJECT.
 #![tactic(auto)]
 
+mod authentication;
+mod configuration_update;
+mod deregistration;
+mod elements;
+mod halves;
+mod identification;
 mod message;
+mod parts;
 mod registration;
+mod rows;
+mod security_mode;
+mod service;
+mod status_message;
+mod transport;
 
 pub use crate::message::{Mm, MmRefusal, decode_mm, encode_mm};
 pub use crate::registration::RegistrationType;

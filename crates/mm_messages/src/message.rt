@@ -1,13 +1,18 @@
 //! The messages, and their way to octets and back.
 ghost use Rattle.std.specs.Prelude.{◌≡◌};
+ghost use Rattle.nas_base.specs.Kinds.{mm_type};
 ghost use Rattle.nas_base.specs.Writing.{Writes};
-ghost use Rattle.mm_messages.specs.Messages.{body_at, mm_in, spelling};
-ghost use Rattle.mm_messages.specs.Parts.{Decodes};
+ghost use Rattle.nas_layout.specs.Layout.{Lays, laid};
+ghost use Rattle.mm_messages.specs.Messages.{Decodes, layout_of, mm_in, spelling};
+ghost use Rattle.mm_messages.specs.Parts.{head};
 
-use crate::RegistrationType;
-use crate::registration::{self, REGISTRATION_REJECT, REGISTRATION_REQUEST};
-use nas_base::{Full, Ksi, Reader, Writer};
-use nas_elements::{Capability, Identity};
+use crate::{
+    RegistrationType, authentication, configuration_update, deregistration, identification,
+    registration, security_mode, service, status_message, transport,
+};
+use nas_base::{Full, Ksi, MmKind, Octets, Reader, Writer};
+use nas_elements::{Algs, Asi, Capability, Dnn, Guti, Identity, Nssai, Slice, Status, TaiList, Timer3};
+use nas_layout::{Abba, BodyRefusal, Half};
 use std::alloc::Global;
 
 /// 5GMM's extended protocol discriminator (TS 24.501 clause 9.2).
@@ -16,7 +21,8 @@ pub const EPD_5GMM: u8 = 0x7e;
 /// The security header type of a plain message (TS 24.501 clause 9.3).
 pub const PLAIN: u8 = 0x00;
 
-/// A 5GMM message (TS 24.501 clause 8.2).
+/// A 5GMM message (TS 24.501 clause 8.2): one field for each of its mandatory parts, and one for each element that it may
+/// have. What a part's spare bits hold isn't kept.
 #[derive(Drop)]
 pub enum Mm {
     RegistrationRequest {
@@ -24,9 +30,97 @@ pub enum Mm {
         ksi: Ksi,
         identity: Identity,
         capability: Option<Capability>,
+        status: Option<Status>,
     },
+    RegistrationAccept {
+        result: u8,
+        guti: Option<Guti>,
+        tai_list: Option<TaiList>,
+        nssai: Option<Nssai>,
+        status: Option<Status>,
+        timer: Option<Timer3>,
+    },
+    RegistrationComplete,
     RegistrationReject {
         cause: u8,
+    },
+    DeregistrationRequestUeOriginating {
+        switch_off: bool,
+        ksi: Ksi,
+        identity: Identity,
+    },
+    DeregistrationAcceptUeOriginating,
+    DeregistrationRequestUeTerminated {
+        switch_off: bool,
+        cause: Option<u8>,
+    },
+    DeregistrationAcceptUeTerminated,
+    ServiceRequest {
+        ksi: Ksi,
+        service_type: Half,
+        identity: Identity,
+        status: Option<Status>,
+    },
+    ServiceReject {
+        cause: u8,
+        status: Option<Status>,
+    },
+    ServiceAccept {
+        status: Option<Status>,
+    },
+    ConfigurationUpdateCommand {
+        indication: Option<Half>,
+        guti: Option<Guti>,
+    },
+    ConfigurationUpdateComplete,
+    AuthenticationRequest {
+        ksi: Ksi,
+        abba: Abba,
+        rand: Option<[u8; 16]>,
+        autn: Option<[u8; 16]>,
+    },
+    AuthenticationResponse {
+        res: Option<[u8; 16]>,
+    },
+    AuthenticationReject,
+    AuthenticationFailure {
+        cause: u8,
+        auts: Option<[u8; 14]>,
+    },
+    IdentityRequest {
+        identity_type: Half,
+    },
+    IdentityResponse {
+        identity: Identity,
+    },
+    SecurityModeCommand {
+        algs: Algs,
+        ksi: Ksi,
+        capability: Capability,
+        asi: Option<Asi>,
+    },
+    SecurityModeComplete {
+        message: Option<Octets>,
+    },
+    SecurityModeReject {
+        cause: u8,
+    },
+    FiveGmmStatus {
+        cause: u8,
+    },
+    UlNasTransport {
+        container_type: Half,
+        container: Octets,
+        psi: Option<u8>,
+        request_type: Option<Half>,
+        slice: Option<Slice>,
+        dnn: Option<Dnn>,
+    },
+    DlNasTransport {
+        container_type: Half,
+        container: Octets,
+        psi: Option<u8>,
+        cause: Option<u8>,
     },
 }
 
@@ -40,6 +134,7 @@ pub enum MmRefusal {
     UnknownType { n: u8 },
     /// The mandatory part `part`, counted from 1, is the first that is cut or has no value. It starts at `at`.
     Mandatory { part: u8, at: usize },
+    /// There was no memory left.
     Memory,
 }
 
@@ -61,21 +156,52 @@ pub fn decode_mm(alloc: Global, octets: &[u8]) -> Result<Mm, MmRefusal>
     if octets.len() < 3 {
         return Err(MmRefusal::Ignored { at: octets.len() });
     }
+    let Some(kind) = MmKind::from_code(octets[2]) else {
+        return Err(MmRefusal::UnknownType { n: octets[2] });
+    };
     let mut reader = Reader::new(octets);
-    match reader.take(3) {
-        Ok(_) => read_body(alloc, octets[2], &mut reader),
-        Err(_) => unreachable!(),
+    let _ = reader.take(3);
+    match read_body(alloc, kind, &mut reader) {
+        Ok(message) => Ok(message),
+        Err(BodyRefusal::Mandatory { part, at }) => Err(MmRefusal::Mandatory { part, at }),
+        Err(BodyRefusal::Memory) => Err(MmRefusal::Memory),
     }
 }
 
-// Reads what stands behind the head of a message of this type.
-fn read_body(alloc: Global, kind: u8, reader: &mut Reader) -> Result<Mm, MmRefusal>
-    ensures { Decodes result (body_at kind reader.old) }
+// Reads what stands behind the head of a message of this kind.
+fn read_body(alloc: Global, kind: MmKind, reader: &mut Reader) -> Result<Mm, BodyRefusal>
+    ensures { Lays result (laid (layout_of kind) 1 reader.old) }
 {
     match kind {
-        REGISTRATION_REQUEST => registration::read_request(alloc, reader),
-        REGISTRATION_REJECT => registration::read_reject(reader),
-        _ => Err(MmRefusal::UnknownType { n: kind }),
+        MmKind::RegistrationRequest => registration::read_request(alloc, reader),
+        MmKind::RegistrationAccept => registration::read_accept(reader),
+        MmKind::RegistrationComplete => Ok(Mm::RegistrationComplete),
+        MmKind::RegistrationReject => registration::read_reject(reader),
+        MmKind::DeregistrationRequestUeOriginating => {
+            deregistration::read_request_of_handset(alloc, reader)
+        }
+        MmKind::DeregistrationAcceptUeOriginating => Ok(Mm::DeregistrationAcceptUeOriginating),
+        MmKind::DeregistrationRequestUeTerminated => {
+            deregistration::read_request_of_network(reader)
+        }
+        MmKind::DeregistrationAcceptUeTerminated => Ok(Mm::DeregistrationAcceptUeTerminated),
+        MmKind::ServiceRequest => service::read_request(alloc, reader),
+        MmKind::ServiceReject => service::read_reject(reader),
+        MmKind::ServiceAccept => service::read_accept(reader),
+        MmKind::ConfigurationUpdateCommand => configuration_update::read_command(reader),
+        MmKind::ConfigurationUpdateComplete => Ok(Mm::ConfigurationUpdateComplete),
+        MmKind::AuthenticationRequest => authentication::read_request(reader),
+        MmKind::AuthenticationResponse => authentication::read_response(reader),
+        MmKind::AuthenticationReject => Ok(Mm::AuthenticationReject),
+        MmKind::AuthenticationFailure => authentication::read_failure(reader),
+        MmKind::IdentityRequest => identification::read_request(reader),
+        MmKind::IdentityResponse => identification::read_response(alloc, reader),
+        MmKind::SecurityModeCommand => security_mode::read_command(reader),
+        MmKind::SecurityModeComplete => security_mode::read_complete(alloc, reader),
+        MmKind::SecurityModeReject => security_mode::read_reject(reader),
+        MmKind::FiveGmmStatus => status_message::read(reader),
+        MmKind::UlNasTransport => transport::read_ul(alloc, reader),
+        MmKind::DlNasTransport => transport::read_dl(alloc, reader),
     }
 }
 
@@ -93,7 +219,88 @@ pub fn encode_mm(value: &Mm, out: &mut Writer) -> Result<(), Full>
             ksi,
             identity,
             capability,
-        } => registration::write_request(*registration, *ksi, identity, capability, out),
+            status,
+        } => registration::write_request(*registration, *ksi, identity, capability, status, out),
+        Mm::RegistrationAccept {
+            result,
+            guti,
+            tai_list,
+            nssai,
+            status,
+            timer,
+        } => registration::write_accept(*result, guti, tai_list, nssai, status, timer, out),
+        Mm::RegistrationComplete => write_head(MmKind::RegistrationComplete, out),
         Mm::RegistrationReject { cause } => registration::write_reject(*cause, out),
+        Mm::DeregistrationRequestUeOriginating {
+            switch_off,
+            ksi,
+            identity,
+        } => deregistration::write_request_of_handset(*switch_off, *ksi, identity, out),
+        Mm::DeregistrationAcceptUeOriginating => {
+            write_head(MmKind::DeregistrationAcceptUeOriginating, out)
+        }
+        Mm::DeregistrationRequestUeTerminated { switch_off, cause } => {
+            deregistration::write_request_of_network(*switch_off, cause, out)
+        }
+        Mm::DeregistrationAcceptUeTerminated => {
+            write_head(MmKind::DeregistrationAcceptUeTerminated, out)
+        }
+        Mm::ServiceRequest {
+            ksi,
+            service_type,
+            identity,
+            status,
+        } => service::write_request(*ksi, *service_type, identity, status, out),
+        Mm::ServiceReject { cause, status } => service::write_reject(*cause, status, out),
+        Mm::ServiceAccept { status } => service::write_accept(status, out),
+        Mm::ConfigurationUpdateCommand { indication, guti } => {
+            configuration_update::write_command(indication, guti, out)
+        }
+        Mm::ConfigurationUpdateComplete => write_head(MmKind::ConfigurationUpdateComplete, out),
+        Mm::AuthenticationRequest {
+            ksi,
+            abba,
+            rand,
+            autn,
+        } => authentication::write_request(*ksi, abba, rand, autn, out),
+        Mm::AuthenticationResponse { res } => authentication::write_response(res, out),
+        Mm::AuthenticationReject => write_head(MmKind::AuthenticationReject, out),
+        Mm::AuthenticationFailure { cause, auts } => {
+            authentication::write_failure(*cause, auts, out)
+        }
+        Mm::IdentityRequest { identity_type } => {
+            identification::write_request(*identity_type, out)
+        }
+        Mm::IdentityResponse { identity } => identification::write_response(identity, out),
+        Mm::SecurityModeCommand {
+            algs,
+            ksi,
+            capability,
+            asi,
+        } => security_mode::write_command(*algs, *ksi, capability, asi, out),
+        Mm::SecurityModeComplete { message } => security_mode::write_complete(message, out),
+        Mm::SecurityModeReject { cause } => security_mode::write_reject(*cause, out),
+        Mm::FiveGmmStatus { cause } => status_message::write(*cause, out),
+        Mm::UlNasTransport {
+            container_type,
+            container,
+            psi,
+            request_type,
+            slice,
+            dnn,
+        } => transport::write_ul(*container_type, container, psi, request_type, slice, dnn, out),
+        Mm::DlNasTransport {
+            container_type,
+            container,
+            psi,
+            cause,
+        } => transport::write_dl(*container_type, container, psi, cause, out),
     }
+}
+
+/// The head of a plain message of this kind (TS 24.501 clauses 9.2, 9.3 and 9.7).
+pub(crate) fn write_head(kind: MmKind, out: &mut Writer) -> Result<(), Full>
+    ensures { Writes (head (mm_type kind)) out.old out.new result }
+{
+    out.put(&[EPD_5GMM, PLAIN, kind.code()])
 }

@@ -1,26 +1,18 @@
 //! The messages of registration.
-ghost use Rattle.std.specs.Prelude.{◌≡◌, ◌<◌, ◌+◌, ◌*◌, ◌++◌, length};
-ghost use Rattle.byteorder.specs.Endian.{big_bytes};
-ghost use Rattle.nas_base.specs.Writing.{Writes, lve, optional_tlv};
-ghost use Rattle.mm_messages.specs.Parts.{Decodes};
-ghost use Rattle.nas_elements.specs.Identity.{identity_octets};
-ghost use Rattle.mm_messages.specs.Registration.{registration_reject, registration_reject_at, registration_request, registration_request_at, registration_type_code, registration_type_of};
+ghost use Rattle.std.specs.Prelude.{◌≡◌};
+ghost use Rattle.nas_base.specs.Writing.{Writes};
+ghost use Rattle.nas_layout.specs.Layout.{Lays, laid};
+ghost use Rattle.mm_messages.specs.Parts.{registration_type_code, registration_type_of};
+ghost use Rattle.mm_messages.specs.Registration.{registration_accept, registration_accept_layout, registration_reject, registration_reject_layout, registration_request, registration_request_layout};
 
-use crate::message::{EPD_5GMM, PLAIN};
-use crate::{Mm, MmRefusal};
-use byteorder::{BigEndian, ByteOrder};
-use nas_base::{Full, Ksi, Reader, Writer};
-use nas_elements::{Capability, Identity, IdentityRefusal};
+use crate::halves::two_halves;
+use crate::message::{Mm, write_head};
+use crate::rows::{fixed_row, shape, tlv_row, tlve_row};
+use crate::{elements, parts};
+use nas_base::{Full, Ksi, MmKind, Reader, Writer, walk};
+use nas_elements::{Capability, Guti, Identity, Nssai, Status, TaiList, Timer3};
+use nas_layout::{BodyRefusal, lve, lve_size, tlv, tlv_size, tlve, tlve_size};
 use std::alloc::Global;
-
-/// The message type of REGISTRATION REQUEST.
-pub const REGISTRATION_REQUEST: u8 = 0x41;
-
-/// The message type of REGISTRATION REJECT.
-pub const REGISTRATION_REJECT: u8 = 0x44;
-
-// The identifier of the UE security capability.
-const UE_SECURITY_CAPABILITY: u8 = 0x2e;
 
 // A follow-on request is pending: bit 4 beside the registration type.
 const FOLLOW_ON: u8 = 8;
@@ -47,11 +39,11 @@ impl RegistrationType {
         }
     }
 
-    // The type of three bits. All other values are read as an initial registration.
-    fn of(code: u8) -> RegistrationType
-        ensures { result ≡ registration_type_of code }
+    // The type in a half. All other values than these are read as an initial registration.
+    fn of(half: u8) -> RegistrationType
+        ensures { result ≡ registration_type_of half }
     {
-        match code {
+        match half % 8 {
             2 => RegistrationType::Mobility,
             3 => RegistrationType::Periodic,
             4 => RegistrationType::Emergency,
@@ -60,31 +52,50 @@ impl RegistrationType {
     }
 }
 
-/// Reads what stands behind the head of a REGISTRATION REQUEST, up to its identity.
-#[tactic(auto, unfolding(crate::specs::Registration::registration_request_at))]
-pub fn read_request(alloc: Global, reader: &mut Reader) -> Result<Mm, MmRefusal>
-    ensures { Decodes result (registration_request_at reader.old) }
+/// Reads what stands behind the head of a REGISTRATION REQUEST.
+#[tactic(auto, unfolding(crate::specs::Registration::registration_request_layout))]
+pub fn read_request(alloc: Global, reader: &mut Reader) -> Result<Mm, BodyRefusal>
+    ensures { Lays result (laid registration_request_layout 1 reader.old) }
 {
-    let (low, high) = reader.half().map_err(|short| MmRefusal::Mandatory {
-        part: 1,
-        at: short.at,
-    })?;
-    let at = reader.place();
-    let octets = reader.lve().map_err(|short| MmRefusal::Mandatory {
-        part: 2,
-        at: short.at,
-    })?;
-    let identity = match Identity::read(alloc, octets) {
-        Ok(identity) => identity,
-        Err(IdentityRefusal::Wrong { at: _ }) => return Err(MmRefusal::Mandatory { part: 2, at }),
-        Err(IdentityRefusal::Memory) => return Err(MmRefusal::Memory),
-    };
+    let first = parts::octet(1, reader)?;
+    let identity = parts::identity(alloc, 2, reader)?;
+    let found = walk(reader.left(), &shape(&[tlv_row(0x2e), tlv_row(0x50), fixed_row(0x52, 7)]));
     Ok(Mm::RegistrationRequest {
-        registration: RegistrationType::of(low % 8),
-        ksi: Ksi(high % 8),
+        registration: RegistrationType::of(first % 16),
+        ksi: Ksi(first / 16 % 8),
         identity,
-        capability: None,
+        capability: elements::capability(&found),
+        status: elements::status(&found),
     })
+}
+
+/// Reads what stands behind the head of a REGISTRATION ACCEPT.
+#[tactic(auto, unfolding(crate::specs::Registration::registration_accept_layout))]
+pub fn read_accept(reader: &mut Reader) -> Result<Mm, BodyRefusal>
+    ensures { Lays result (laid registration_accept_layout 1 reader.old) }
+{
+    let result = parts::registration_result(1, reader)?;
+    let found = walk(
+        reader.left(),
+        &shape(&[tlve_row(0x77), tlv_row(0x54), tlv_row(0x15), tlv_row(0x50), tlv_row(0x5e)]),
+    );
+    Ok(Mm::RegistrationAccept {
+        result,
+        guti: elements::guti(&found),
+        tai_list: elements::tai_list(&found),
+        nssai: elements::allowed_nssai(&found),
+        status: elements::status(&found),
+        timer: elements::timer(&found),
+    })
+}
+
+/// Reads what stands behind the head of a REGISTRATION REJECT.
+#[tactic(auto, unfolding(crate::specs::Registration::registration_reject_layout))]
+pub fn read_reject(reader: &mut Reader) -> Result<Mm, BodyRefusal>
+    ensures { Lays result (laid registration_reject_layout 1 reader.old) }
+{
+    let cause = parts::octet(1, reader)?;
+    Ok(Mm::RegistrationReject { cause })
 }
 
 /// Writes a REGISTRATION REQUEST.
@@ -94,76 +105,46 @@ pub fn write_request(
     ksi: Ksi,
     identity: &Identity,
     capability: &Option<Capability>,
+    status: &Option<Status>,
     out: &mut Writer,
 ) -> Result<(), Full>
-    ensures { Writes (registration_request registration ksi identity.now capability.now) out.old out.new result }
+    ensures { Writes (registration_request registration ksi identity.now capability.now status.now) out.old out.new result }
 {
-    let start = [
-        EPD_5GMM,
-        PLAIN,
-        REGISTRATION_REQUEST,
-        two_halves(registration.code() + FOLLOW_ON, ksi.0),
-    ];
-    write_parts(&start, identity, capability, out)
+    out.fits(4 + lve_size(identity) + tlv_size(capability) + tlv_size(status))?;
+    write_head(MmKind::RegistrationRequest, out)?;
+    out.put(&[two_halves(registration.code() + FOLLOW_ON, ksi.0)])?;
+    lve(identity, out)?;
+    tlv(0x2e, capability, out)?;
+    tlv(0x50, status, out)
 }
 
-// Writes the start, the identity and the capability, all or none.
-fn write_parts(
-    start: &[u8],
-    identity: &Identity,
-    capability: &Option<Capability>,
+/// Writes a REGISTRATION ACCEPT.
+#[tactic(auto, unfolding(crate::specs::Registration::registration_accept))]
+pub fn write_accept(
+    outcome: u8,
+    guti: &Option<Guti>,
+    tai_list: &Option<TaiList>,
+    nssai: &Option<Nssai>,
+    status: &Option<Status>,
+    timer: &Option<Timer3>,
     out: &mut Writer,
 ) -> Result<(), Full>
-    requires { length start.now ≡ 4 }
-    ensures { Writes (start.now ++ (lve (identity_octets identity.now) ++ optional_tlv 0x2e capability.now)) out.old out.new result }
+    ensures { Writes (registration_accept outcome guti.now tai_list.now nssai.now status.now timer.now) out.old out.new result }
 {
-    let size = identity.size();
-    match capability {
-        None => {
-            out.fits(6 + size)?;
-            out.put(start)?;
-            out.put(&in_two_octets(size as u16))?;
-            identity.write(out)
-        }
-        Some(capability) => {
-            let octets = capability.as_slice();
-            out.fits(8 + size + octets.len())?;
-            out.put(start)?;
-            out.put(&in_two_octets(size as u16))?;
-            identity.write(out)?;
-            out.put(&[UE_SECURITY_CAPABILITY])?;
-            out.lv(octets)
-        }
-    }
-}
-
-// A number, its high octet first.
-fn in_two_octets(number: u16) -> [u8; 2]
-    ensures { result ≡ big_bytes 2 number }
-{
-    let mut octets = [0; 2];
-    BigEndian::write_u16(&mut octets, number);
-    octets
-}
-
-// An octet of two halves.
-fn two_halves(low: u8, high: u8) -> u8
-    requires { low + 16 * high < 256 }
-    ensures { result ≡ low + 16 * high }
-{
-    low + 16 * high
-}
-
-/// Reads what stands behind the head of a REGISTRATION REJECT.
-#[tactic(auto, unfolding(crate::specs::Registration::registration_reject_at))]
-pub fn read_reject(reader: &mut Reader) -> Result<Mm, MmRefusal>
-    ensures { Decodes result (registration_reject_at reader.old) }
-{
-    let cause = reader.take(1).map_err(|short| MmRefusal::Mandatory {
-        part: 1,
-        at: short.at,
-    })?;
-    Ok(Mm::RegistrationReject { cause: cause[0] })
+    out.fits(
+        5 + tlve_size(guti)
+            + tlv_size(tai_list)
+            + tlv_size(nssai)
+            + tlv_size(status)
+            + tlv_size(timer),
+    )?;
+    write_head(MmKind::RegistrationAccept, out)?;
+    out.put(&[1, outcome])?;
+    tlve(0x77, guti, out)?;
+    tlv(0x54, tai_list, out)?;
+    tlv(0x15, nssai, out)?;
+    tlv(0x50, status, out)?;
+    tlv(0x5e, timer, out)
 }
 
 /// Writes a REGISTRATION REJECT.
@@ -171,5 +152,7 @@ pub fn read_reject(reader: &mut Reader) -> Result<Mm, MmRefusal>
 pub fn write_reject(cause: u8, out: &mut Writer) -> Result<(), Full>
     ensures { Writes (registration_reject cause) out.old out.new result }
 {
-    out.put(&[EPD_5GMM, PLAIN, REGISTRATION_REJECT, cause])
+    out.fits(4)?;
+    write_head(MmKind::RegistrationReject, out)?;
+    out.put(&[cause])
 }

@@ -1,0 +1,101 @@
+//! The messages of primary authentication by 5G AKA.
+ghost use Rattle.std.specs.Prelude.{◌≡◌};
+ghost use Rattle.nas_base.specs.Writing.{Writes};
+ghost use Rattle.nas_layout.specs.Layout.{Lays, laid};
+ghost use Rattle.mm_messages.specs.Authentication.{authentication_failure, authentication_failure_layout, authentication_request, authentication_request_layout, authentication_response, authentication_response_layout};
+
+use crate::message::{Mm, write_head};
+use crate::rows::{fixed_row, shape, tlv_row};
+use crate::{elements, parts};
+use nas_base::{Full, Ksi, MmKind, Reader, Writer, walk};
+use nas_layout::{Abba, BodyRefusal, lv, lv_size, tlv, tlv_size, tv, tv_size};
+
+/// Reads what stands behind the head of an AUTHENTICATION REQUEST.
+#[tactic(auto, unfolding(crate::specs::Authentication::authentication_request_layout))]
+pub fn read_request(reader: &mut Reader) -> Result<Mm, BodyRefusal>
+    ensures { Lays result (laid authentication_request_layout 1 reader.old) }
+{
+    let first = parts::octet(1, reader)?;
+    let abba = parts::abba(2, reader)?;
+    let found = walk(
+        reader.left(),
+        &shape(&[fixed_row(0x21, 17), tlv_row(0x20)]),
+    );
+    Ok(Mm::AuthenticationRequest {
+        ksi: Ksi(first % 16 % 8),
+        abba,
+        rand: elements::rand(&found),
+        autn: elements::autn(&found),
+    })
+}
+
+/// Writes an AUTHENTICATION REQUEST.
+#[tactic(auto, unfolding(crate::specs::Authentication::authentication_request))]
+pub fn write_request(
+    ksi: Ksi,
+    abba: &Abba,
+    rand: &Option<[u8; 16]>,
+    autn: &Option<[u8; 16]>,
+    out: &mut Writer,
+) -> Result<(), Full>
+    ensures { Writes (authentication_request ksi abba.now rand.now autn.now) out.old out.new result }
+{
+    out.fits(4 + lv_size(abba) + tv_size(rand) + tlv_size(autn))?;
+    write_head(MmKind::AuthenticationRequest, out)?;
+    out.put(&[ksi.0])?;
+    lv(abba, out)?;
+    tv(0x21, rand, out)?;
+    tlv(0x20, autn, out)
+}
+
+/// Reads what stands behind the head of an AUTHENTICATION RESPONSE.
+#[tactic(auto, unfolding(crate::specs::Authentication::authentication_response_layout))]
+pub fn read_response(reader: &mut Reader) -> Result<Mm, BodyRefusal>
+    ensures { Lays result (laid authentication_response_layout 1 reader.old) }
+{
+    let found = walk(reader.left(), &shape(&[tlv_row(0x2d)]));
+    Ok(Mm::AuthenticationResponse {
+        res: elements::res(&found),
+    })
+}
+
+/// Writes an AUTHENTICATION RESPONSE.
+#[tactic(auto, unfolding(crate::specs::Authentication::authentication_response))]
+pub fn write_response(
+    res: &Option<[u8; 16]>,
+    out: &mut Writer,
+) -> Result<(), Full>
+    ensures { Writes (authentication_response res.now) out.old out.new result }
+{
+    out.fits(3 + tlv_size(res))?;
+    write_head(MmKind::AuthenticationResponse, out)?;
+    tlv(0x2d, res, out)
+}
+
+/// Reads what stands behind the head of an AUTHENTICATION FAILURE.
+#[tactic(auto, unfolding(crate::specs::Authentication::authentication_failure_layout))]
+pub fn read_failure(reader: &mut Reader) -> Result<Mm, BodyRefusal>
+    ensures { Lays result (laid authentication_failure_layout 1 reader.old) }
+{
+    let cause = parts::octet(1, reader)?;
+    let found = walk(reader.left(), &shape(&[tlv_row(0x30)]));
+    Ok(Mm::AuthenticationFailure {
+        cause,
+        auts: elements::auts(&found),
+    })
+}
+
+/// Writes an AUTHENTICATION FAILURE.
+#[tactic(auto, unfolding(crate::specs::Authentication::authentication_failure))]
+pub fn write_failure(
+    cause: u8,
+    auts: &Option<[u8; 14]>,
+    out: &mut Writer,
+) -> Result<(), Full>
+    ensures { Writes (authentication_failure cause auts.now) out.old out.new result }
+{
+    out.fits(4 + tlv_size(auts))?;
+    write_head(MmKind::AuthenticationFailure, out)?;
+    out.put(&[cause])?;
+    tlv(0x30, auts, out)
+}
