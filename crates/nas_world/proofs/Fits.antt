@@ -1,5 +1,5 @@
 -- What the ends send fits one message.
-use Rattle.std.proofs.Common.{◌≡◌, ℕ, ◌≤◌, true, List, length, Some, arith}
+use Rattle.std.proofs.Common.{◌≡◌, ℕ, ◌≤◌, true, List, length, Some, None, arith}
 use Rattle.std.proofs.lemmas.Bool.Decides.{nat_tests}
 use Rattle.nas_base.specs.Digits.{are_digits}
 use Rattle.mm_messages.specs.Messages.{spelling}
@@ -12,7 +12,7 @@ use Rattle.mm_messages.specs.declared.registration.RegistrationType.TheVariants.
 use Rattle.nas_elements.specs.Suci.{SuciParts}
 
 pub request_fits : (s : SuciParts) (capability : List ℕ) → are_digits 9 10 s.msin ≡ true → length capability ≤ 8 →
-    length (registration_request Initial 7 (Suci s) (Some capability)) ≤ 4096
+    length (registration_request Initial 7 (Suci s) (Some capability) None) ≤ 4096
 request_fits s capability msin short =
     let ten : length s.msin ≤ 10 = grind (arith, nat_tests) in
     omega (arith, length-registration_request Initial 7 (Suci s) capability, length-suci_octets s)

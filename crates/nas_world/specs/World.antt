@@ -1,5 +1,5 @@
 -- Both ends, and what each event does to them.
-use Rattle.std.specs.Prelude.{Bool, true, false, not, List, [], nat_lt, ◌||◌, ◌∷◌, ◌++◌, Option, Some, None, Result, Ok, Err, if◌then◌else◌}
+use Rattle.std.specs.Prelude.{Bool, true, false, not, List, [], nat_lt, ◌||◌, ◌∷◌, ◌++◌, Option, Some, None, Result, Ok, if◌then◌else◌}
 use Rattle.nas_base.specs.Supi.{msin_of}
 use Rattle.nas_base.specs.declared.kind.Kind.{Kind}
 use Rattle.nas_base.specs.declared.kind.Kind.TheVariants as kinds
@@ -36,21 +36,19 @@ suci_of h = record { plmn = h.plmn; routing = 0 ∷ []; msin = msin_of h.plmn h.
 
 -- how it asks to be registered (TS 24.501 clause 5.5.1.2.2); it has no key, which ngKSI 7 says (clause 9.11.3.32)
 abbrev pub request_of : HandsetValues → Mm
-request_of h = RegistrationRequest Initial 7 (Suci (suci_of h)) (Some h.capability)
+request_of h = RegistrationRequest Initial 7 (Suci (suci_of h)) (Some h.capability) None
 
 -- The network knows no handset: it answers every registration request with cause 3, illegal UE, and nothing else
 -- (TS 24.501 clauses 5.5.1.2.5 and 9.11.3.2).
 abbrev pub answer_to : Result Mm MmRefusal → Option Mm
-answer_to (Ok (RegistrationRequest registration ksi identity capability)) = Some (RegistrationReject 3)
-answer_to (Ok (RegistrationReject cause)) = None
-answer_to (Err e) = None
+answer_to (Ok (RegistrationRequest registration ksi identity capability status)) = Some (RegistrationReject 3)
+answer_to read = None
 
 -- The handset is deregistered by a rejection, and by nothing else. A plain one with a cause from 72 to 86 is passed over
 -- (TS 24.501 clause 4.4.4.2).
 abbrev pub is_rejection : Result Mm MmRefusal → Bool
 is_rejection (Ok (RegistrationReject cause)) = nat_lt cause 72 || nat_lt 86 cause
-is_rejection (Ok (RegistrationRequest registration ksi identity capability)) = false
-is_rejection (Err e) = false
+is_rejection read = false
 
 -- messages as they are sent on link 1; an uplink is the first message of its connection, since only an idle handset asks
 abbrev pub uplink : Mm → Send

@@ -26,6 +26,7 @@ pub fn request(config: &HandsetConfig) -> Mm
             msin: config.supi.msin(&config.plmn),
         }),
         capability: Some(config.capability.copy()),
+        status: None,
     }
 }
 
@@ -35,15 +36,7 @@ pub fn is_rejected(alloc: Global, octets: &[u8]) -> Result<bool, Memory>
 {
     match decode_mm(alloc, octets) {
         Ok(Mm::RegistrationReject { cause }) => Ok(cause < 72 || 86 < cause),
-        Ok(
-            Mm::RegistrationRequest {
-                registration: _,
-                ksi: _,
-                identity: _,
-                capability: _,
-            },
-        ) => Ok(false),
         Err(MmRefusal::Memory) => Err(Memory),
-        Err(_) => Ok(false),
+        Ok(_) | Err(_) => Ok(false),
     }
 }

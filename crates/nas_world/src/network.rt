@@ -21,10 +21,10 @@ pub fn answer(alloc: Global, octets: &[u8]) -> Result<Option<Mm>, Memory>
                 ksi: _,
                 identity: _,
                 capability: _,
+                status: _,
             },
         ) => Ok(Some(Mm::RegistrationReject { cause: ILLEGAL_UE })),
-        Ok(Mm::RegistrationReject { cause: _ }) => Ok(None),
         Err(MmRefusal::Memory) => Err(Memory),
-        Err(_) => Ok(None),
+        Ok(_) | Err(_) => Ok(None),
     }
 }
