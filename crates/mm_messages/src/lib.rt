@@ -14,6 +14,8 @@ mod rows;
 mod security_mode;
 mod service;
 mod status_message;
+#[cfg(test)]
+mod tests;
 mod transport;
 
 pub use crate::message::{Mm, MmRefusal, decode_mm, encode_mm};
