@@ -1,5 +1,5 @@
 //! Lists of slices.
-ghost use Rattle.std.specs.Prelude.{◌≡◌, true};
+ghost use Rattle.std.specs.Prelude.{◌≡◌, ◌≤◌, length, true};
 ghost use Rattle.nas_base.specs.Writing.{Writes};
 ghost use Rattle.nas_elements.specs.Nssai.{first_in, is_nssai, nssai_from, nssai_in, nssai_octets, starts_slice};
 ghost use Rattle.nas_elements.specs.Reads.{Reads};
@@ -72,6 +72,14 @@ impl Nssai {
         ensures { Writes (nssai_octets self.now) out.old out.new result }
     {
         out.put(self.octets().as_slice())
+    }
+
+    /// The number of its octets: 2 to 40.
+    pub fn size(&self) -> usize
+        ensures value { result ≡ length (nssai_octets self.now) }
+        ensures limit { result ≤ 40 }
+    {
+        self.octets().len()
     }
 
     /// These slices, or None exactly where they are none or more than 8.

@@ -55,6 +55,14 @@ impl Slice {
         out.put(self.octets().as_slice())
     }
 
+    /// The number of its octets: 1 or 4.
+    pub fn size(&self) -> usize
+        ensures value { result ≡ length (slice_octets self.now) }
+        ensures limit { result ≤ 4 }
+    {
+        self.octets().len()
+    }
+
     /// An equal value.
     pub fn copy(&self) -> Slice
         ensures value { result ≡ self.now }

@@ -1,1 +1,3 @@
+pub mod Abba
+pub mod Half
 pub mod Layout

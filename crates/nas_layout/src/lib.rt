@@ -2,8 +2,15 @@
 //! read and written.
 #![tactic(auto)]
 
+mod abba;
 mod body;
+mod elements;
 mod frame;
+mod half;
+mod written;
 
+pub use crate::abba::Abba;
 pub use crate::body::{BodyRefusal, cut, value};
 pub use crate::frame::Frame;
+pub use crate::half::Half;
+pub use crate::written::{Counted, Written};

@@ -1,0 +1,60 @@
+//! Values of half an octet.
+ghost use Rattle.nas_elements.specs.Reads.{Reads};
+ghost use Rattle.nas_layout.specs.Half.{half_in};
+
+use crate::{Counted, Written};
+use nas_base::{Full, Writer};
+use nas_elements::Wrong;
+use std::marker::Model;
+
+/// A value of half an octet, 0 to 15 (TS 24.007 clause 11.2.1.1).
+#[derive(Clone, Copy, Debug, PartialEq, Eq)]
+pub struct Half(pub u8);
+
+impl Model for Half {
+    ghost use Rattle.std.specs.Prelude.{ℕ, ◌<◌};
+
+    ghost Value = { ℕ };
+
+    ghost view = { λ h. h.0 };
+
+    ghost invariant = { λ h. h.0 < 16 };
+
+    ghost inverse = { λ n. record { 0 = n } };
+}
+
+impl Half {
+    /// The low half of the first octet, 0 where there is none. The high half is passed over.
+    ///
+    /// # Errors
+    ///
+    /// None: `Wrong` never comes.
+    pub fn read(octets: &[u8]) -> Result<Half, Wrong>
+        ensures { Reads half_in octets.now result }
+    {
+        match octets {
+            [octet, ..] => Ok(Half(*octet % 16)),
+            [] => Ok(Half(0)),
+        }
+    }
+}
+
+impl Written for Half {
+    ghost use Rattle.nas_layout.specs.Half.{half_octets};
+
+    ghost octets = { half_octets };
+
+    fn size(&self) -> usize {
+        1
+    }
+
+    fn write_to(&self, out: &mut Writer) -> Result<(), Full> {
+        out.put(&[self.0])
+    }
+}
+
+impl Counted for Half {
+    fn count(&self) -> u8 {
+        1
+    }
+}
