@@ -1,3 +1,4 @@
 pub mod Abba
 pub mod Half
 pub mod Layout
+pub mod Writing
