@@ -1,1 +1,2 @@
 pub mod AbbaLaws
+pub mod SpellsLaws

@@ -1,4 +1,5 @@
 pub mod Abba
 pub mod Half
+pub mod Laws
 pub mod Layout
 pub mod Writing

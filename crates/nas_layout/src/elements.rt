@@ -2,9 +2,7 @@
 
 use crate::{Counted, Written};
 use nas_base::{Full, Writer};
-use nas_elements::{
-    Asi, Capability, Dnn, Guti, Identity, Nssai, Slice, Status, TaiList, Timer3,
-};
+use nas_elements::{Asi, Capability, Dnn, Guti, Identity, Nssai, Slice, Status, TaiList, Timer3};
 
 impl Written for Asi {
     ghost use Rattle.nas_elements.specs.Asi.{asi_octets};

@@ -9,12 +9,12 @@ mod frame;
 mod half;
 mod writing;
 mod written;
-#[cfg(test)]
-mod tests;
 
 pub use crate::abba::Abba;
 pub use crate::body::{BodyRefusal, cut, value};
 pub use crate::frame::Frame;
 pub use crate::half::Half;
-pub use crate::writing::{half_tv, half_tv_size, lv, lv_size, lve, lve_size, tlv, tlv_size, tlve, tlve_size, tv, tv_size};
+pub use crate::writing::{
+    half_tv, half_tv_size, lv, lv_size, lve, lve_size, tlv, tlv_size, tlve, tlve_size, tv, tv_size,
+};
 pub use crate::written::{Counted, Written};

@@ -123,7 +123,8 @@ pub fn tv_size<E: Written>(value: &Option<E>) -> usize
     }
 }
 
-/// Writes the element of one octet that has these high bits in its identifier, where it is there.
+/// Writes the element of one octet that has this high half in its identifier and the value in the low one (TV of half an
+/// octet), where it is there.
 pub fn half_tv(high: Half, value: &Option<Half>, out: &mut Writer) -> Result<(), Full>
     ensures { Writes (optional_half (16 * high) value.now) out.old out.new result }
 {
