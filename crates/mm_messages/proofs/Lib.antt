@@ -1,1 +1,3 @@
+pub mod Back
+pub mod RegistrationBack
 pub mod SpellingLaws

@@ -7,6 +7,7 @@ mod deregistration;
 mod elements;
 mod halves;
 mod identification;
+mod laws;
 mod message;
 mod parts;
 mod registration;
