@@ -3,6 +3,7 @@ pub mod ConfigurationUpdate
 pub mod Deregistration
 pub mod Elements
 pub mod Identification
+pub mod KindOf
 pub mod Messages
 pub mod Parts
 pub mod Registration

@@ -7,7 +7,7 @@ mod deregistration;
 mod elements;
 mod halves;
 mod identification;
-mod laws;
+mod kind;
 mod message;
 mod parts;
 mod registration;
@@ -19,5 +19,6 @@ mod status_message;
 mod tests;
 mod transport;
 
+pub use crate::kind::kind_of;
 pub use crate::message::{Mm, MmRefusal, decode_mm, encode_mm};
 pub use crate::registration::RegistrationType;

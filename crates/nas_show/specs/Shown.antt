@@ -1,0 +1,46 @@
+-- What octets are shown as: the text of a plain message or of a frame, or the place where they are neither.
+use Rattle.std.specs.Prelude.{◌≡◌, ℕ, ◌%◌, not, List, [], ◌∷◌, ◌++◌, length, take, drop, slice_index, nat_lt, ◌==◌, codes, Result, Ok, Err, if◌then◌else◌}
+use Rattle.std.specs.Fmt.{decimal}
+use Rattle.hex.specs.Hex.{encode_lower}
+use Rattle.nas_base.specs.Kinds.{mm_type}
+use Rattle.mm_messages.specs.KindOf.{kind_of}
+use Rattle.mm_messages.specs.Messages.{mm_in}
+use Rattle.mm_messages.specs.declared.message.Mm.{Mm}
+use Rattle.mm_messages.specs.declared.message.MmRefusal.{MmRefusal}
+use Rattle.mm_messages.specs.declared.message.MmRefusal.TheVariants.{Ignored, UnknownType, Mandatory, Memory}
+use Rattle.nas_show.specs.Lines.{lines}
+use Rattle.nas_show.specs.declared.showing.ShowRefusal.{ShowRefusal}
+use Rattle.nas_show.specs.declared.showing.ShowRefusal.TheVariants as refusals
+
+-- a plain message: its type, and its lines
+unfoldable pub message_text : Mm → List ℕ
+message_text message = codes "5gmm " ++ (encode_lower (mm_type (kind_of message) ∷ []) ++ (codes "\n" ++ lines message))
+
+-- a protected frame: its header type, the MAC of four octets, and the sequence number (TS 24.501 clause 9.1.1)
+unfoldable pub frame_text : List ℕ → List ℕ
+frame_text octets =
+    codes "protected "
+    ++ (decimal (slice_index octets 1 % 16) ++ (codes " mac " ++ (encode_lower (take 4 (drop 2 octets))
+    ++ (codes " sn " ++ (decimal (slice_index octets 6) ++ codes "\n")))))
+
+-- the place where octets are no plain message: that of the type where the type is unknown
+abbrev pub plain : Result Mm MmRefusal → Result (List ℕ) ℕ
+plain (Ok message) = Ok (message_text message)
+plain (Err (Ignored at)) = Err at
+plain (Err (UnknownType n)) = Err 2
+plain (Err (Mandatory n at)) = Err at
+plain (Err Memory) = Err 0
+
+-- By the header type in the low half of the second octet: 0 is a plain message, 1 to 4 are frames, which have at least 8 octets.
+unfoldable pub shown : List ℕ → Result (List ℕ) ℕ
+shown octets =
+    if not (slice_index octets 0 == 0x7e) then Err 0
+    else (if nat_lt 4 (slice_index octets 1 % 16) then Err 1
+    else (if slice_index octets 1 % 16 == 0 then plain (mm_in octets)
+    else (if nat_lt (length octets) 8 then Err (length octets) else Ok (frame_text octets))))
+
+-- what a shower answered, its text seen by a view
+abbrev pub Shows : {X : Type 0} → (X → List ℕ) → Result X ShowRefusal → Result (List ℕ) ℕ → Type 0
+Shows view (Ok text) wanted = wanted ≡ Ok (view text)
+Shows view (Err (refusals.Octets place)) wanted = wanted ≡ Err place
+Shows view (Err refusals.Memory) wanted = Unit {0}
