@@ -1,2 +1,4 @@
 pub mod AskLaws
+pub mod DiskLaws
+pub mod OutputLaws
 pub mod SayLaws
