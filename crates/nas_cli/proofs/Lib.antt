@@ -1,2 +1,5 @@
 pub mod AskLaws
+pub mod DiskLaws
+pub mod MachineLaws
+pub mod OutputLaws
 pub mod SayLaws

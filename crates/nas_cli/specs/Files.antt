@@ -25,15 +25,3 @@ AsksFor old new name (Ok octets) = new ≡ one_more old name
 AsksFor old new name (Err Failed) = new ≡ one_more old name
 AsksFor old new name (Err (TooLong size)) = new ≡ one_more old name
 AsksFor old new name (Err Memory) = new ≡ old
-
--- a refusal that names a size names one above the limit
-abbrev pub AboveLimit : ℕ → FileRefusal → Type 0
-AboveLimit limit (TooLong size) = limit < size
-AboveLimit limit Failed = Unit {0}
-AboveLimit limit Memory = Unit {0}
-
--- an error of reading is a failure or want of memory
-abbrev pub IsErrorOfReading : FileRefusal → Type 0
-IsErrorOfReading Failed = Unit {0}
-IsErrorOfReading Memory = Unit {0}
-IsErrorOfReading (TooLong size) = ⊥

@@ -1,4 +1,6 @@
+pub mod Disk
 pub mod Files
+pub mod Machine
 pub mod Program
 pub mod Shelf
 pub mod Status

@@ -1,7 +1,7 @@
-//! The files of the machine. What they hold is not told.
-ghost use Rattle.std.specs.Prelude.{◌≡◌, ◌≤◌, ◌≢◌, length, IfOk, IfErr};
+//! The files of the machine. Which octets a name leads to is not told; what is read of an open file is.
+ghost use Rattle.std.specs.Prelude.{◌≡◌, ◌≤◌, ◌≢◌};
 ghost use Rattle.nas_base.specs.Outside.{Rose};
-ghost use Rattle.nas_cli.specs.Files.{AboveLimit, IsErrorOfReading};
+ghost use Rattle.nas_cli.specs.Disk.{IsErrorOfReading, ReadsOpen, ReadsWhole};
 ghost use Rattle.nas_cli.specs.declared.files.FileRefusal.TheVariants.{Failed, Memory};
 ghost use Rattle.std.specs.IoError.{error_kind};
 ghost use Rattle.std.specs.declared.io.ErrorKind.TheVariants.{OutOfMemory};
@@ -57,11 +57,11 @@ fn refusal_of(error: io::Error) -> FileRefusal
     }
 }
 
-// The octets of a file, of which there are at most `limit`.
-fn read_whole<F: Read>(alloc: Global, file: &mut F, limit: u32) -> Result<Octets1M, FileRefusal>
+// The octets that a reader has left, of which there are at most `limit`. `TooLong` names how many had been read.
+#[tactic(auto, using(crate::proofs::DiskLaws::takes_nothing, crate::proofs::DiskLaws::takes_more, crate::proofs::DiskLaws::takes_all, crate::proofs::DiskLaws::takes_size))]
+pub fn read_whole<F: Read>(alloc: Global, file: &mut F, limit: u32) -> Result<Octets1M, FileRefusal>
     requires { limit ≤ 1048576 }
-    ensures value { IfOk result (λ octets. length octets ≤ limit) }
-    ensures too_long { IfErr result (AboveLimit limit) }
+    ensures { ReadsWhole limit (F.remaining file.old) (F.remaining file.new) result }
 {
     let mut items = Vec::new(alloc);
     let mut piece = [0; PIECE];
@@ -83,6 +83,22 @@ fn read_whole<F: Read>(alloc: Global, file: &mut F, limit: u32) -> Result<Octets
     Err(FileRefusal::Failed)
 }
 
+// The octets of an open file, which may tell how long it is. One that tells a length above the limit is not read.
+pub fn read_open<F: Read>(
+    alloc: Global,
+    file: &mut F,
+    told: Option<u64>,
+    limit: u32,
+) -> Result<Octets1M, FileRefusal>
+    requires { limit ≤ 1048576 }
+    ensures { ReadsOpen told limit (F.remaining file.old) (F.remaining file.new) result }
+{
+    match told {
+        Some(size) if size > limit as u64 => Err(FileRefusal::TooLong { size }),
+        _ => read_whole(alloc, file, limit),
+    }
+}
+
 impl<R: rt::Files> Files for Disk<'_, R> {
     ghost use Rattle.std.specs.Prelude.{None};
 
@@ -93,17 +109,14 @@ impl<R: rt::Files> Files for Disk<'_, R> {
     ghost fault_count = { λ s. s.faults };
 
     fn read(&mut self, alloc: Global, name: &str, limit: u32) -> Result<Octets1M, FileRefusal> {
-        let mut file = match fs::open(self.runtime, name) {
-            Ok(file) => file,
-            Err(error) => return Err(self.counted(refusal_of(error))),
-        };
-        if let Ok(metadata) = file.metadata() {
-            let size = metadata.len();
-            if size > limit as u64 {
-                return Err(FileRefusal::TooLong { size });
+        let read = match fs::open(self.runtime, name) {
+            Ok(mut file) => {
+                let told = file.metadata().ok().map(|metadata| metadata.len());
+                read_open(alloc, &mut file, told, limit)
             }
-        }
-        match read_whole(alloc, &mut file, limit) {
+            Err(error) => Err(refusal_of(error)),
+        };
+        match read {
             Ok(octets) => Ok(octets),
             Err(refusal) => Err(self.counted(refusal)),
         }

@@ -1,6 +1,9 @@
-//! The standard output, or any other writer, as a sink. What it takes is not told.
+//! The standard output, or any other writer, as a sink. It tells of its octets what its writer tells: a standard output
+//! tells nothing.
 
 ghost use Rattle.std.specs.Prelude.{◌≡◌};
+ghost use Rattle.nas_base.specs.Outside.{Rose};
+ghost use Rattle.nas_base.specs.declared.outside.WriteRefusal.TheVariants.{Failed};
 
 use nas_base::{Sink, WriteRefusal};
 use std::alloc::Global;
@@ -16,31 +19,38 @@ pub struct Output<W> {
 impl<W> Output<W> {
     /// This writer, which has not failed yet.
     pub fn new(writer: W) -> Self
-        ensures { result.faults ≡ 0 }
+        ensures writer { result.writer ≡ writer }
+        ensures count { result.faults ≡ 0 }
     {
         Output { writer, faults: 0 }
+    }
+
+    // A failure, which is counted.
+    fn failed(&mut self) -> WriteRefusal
+        ensures value { result ≡ Failed }
+        ensures writer { self.new.writer ≡ self.old.writer }
+        ensures rose { Rose self.old.faults self.new.faults }
+    {
+        self.faults = self.faults.saturating_add(1);
+        WriteRefusal::Failed
     }
 }
 
 impl<W: Write> Sink for Output<W> {
-    ghost use Rattle.std.specs.Prelude.{None};
-
-    ghost written = { λ _. None };
+    ghost written = { λ s. W.contents s.writer };
 
     ghost fault_count = { λ s. s.faults };
 
     fn write(&mut self, _alloc: Global, octets: &[u8]) -> Result<(), WriteRefusal> {
-        let mut rest = octets;
-        while !rest.is_empty() {
-            match self.writer.write(rest) {
+        let mut taken = 0;
+        while taken < octets.len() {
+            match self.writer.write(&octets[taken..]) {
+                Ok(0) => return Err(self.failed()),
+                Ok(count) => taken += count,
                 Err(error) if error.kind() == ErrorKind::OutOfMemory => {
                     return Err(WriteRefusal::Memory);
                 }
-                Ok(0) | Err(_) => {
-                    self.faults = self.faults.saturating_add(1);
-                    return Err(WriteRefusal::Failed);
-                }
-                Ok(count) => rest = &rest[count..],
+                Err(_) => return Err(self.failed()),
             }
         }
         Ok(())

@@ -1,8 +1,12 @@
-use Rattle.std.proofs.Common.{◌≡◌, length}
+-- So many octets were taken, and nothing failed.
+use Rattle.std.proofs.Common.{◌≡◌, ◌≤◌, ◌-◌, length, take}
+use Rattle.std.specs.Io.KnownBytes.{Appends}
 use Rattle.nas_cli.proofs.output.OutputSink.write.Given as goal
 
-abbrev pub invariant-loop-rest : goal.invariant-loop-rest
-invariant-loop-rest g l = l.self.faults ≡ l.fn.self.faults
+abbrev pub invariant-loop-taken : goal.invariant-loop-taken
+invariant-loop-taken g l =
+    (l.self.faults ≡ l.fn.self.faults) × (l.taken ≤ length l.octets)
+    × Appends (g.W.Write.contents l.fn.self.writer) (g.W.Write.contents l.self.writer) (take l.taken l.octets)
 
-abbrev pub decreases-loop-rest : goal.decreases-loop-rest
-decreases-loop-rest g l = length l.rest
+abbrev pub decreases-loop-taken : goal.decreases-loop-taken
+decreases-loop-taken g l = length l.octets - l.taken
