@@ -1,8 +1,10 @@
 -- What the program answers: a status, and the text that it writes.
-use Rattle.std.specs.Prelude.{◌≡◌, ◌⊎◌, Bool, true, false, ℕ, ◌<◌, ◌≤◌, ◌++◌, List, [], ◌∷◌, length, take, codes, nat_eq, nat_lt, Option, Some, None, option_map, IfSome, Result, Ok, Err, if◌then◌else◌}
+use Rattle.std.specs.Prelude.{◌≡◌, ◌⊎◌, Bool, true, false, ℕ, ◌<◌, ◌≤◌, ◌++◌, List, [], ◌∷◌, length, take, codes, nat_eq, nat_lt, nat_le, ◌&&◌, Option, Some, None, option_map, option_and_then, IfSome, Result, Ok, Err, if◌then◌else◌}
 use Rattle.std.specs.Cmp.Lexicographic.{pointwise}
 use Rattle.std.specs.Fmt.{decimal}
+use Rattle.std.specs.Result.{result_ok}
 use Rattle.std.specs.Io.KnownBytes.{Appends}
+use Rattle.hex.specs.Hex.{decode_of}
 use Rattle.nas_base.specs.Outside.{AppendsFront, Rose}
 use Rattle.nas_world.specs.Config.{WorldValues}
 use Rattle.nas_world.specs.Script.{Line}
@@ -34,6 +36,20 @@ vectors_word = codes "vectors"
 abbrev pub is_vectors : List (List ℕ) → Bool
 is_vectors (form ∷ []) = pointwise nat_eq form vectors_word
 is_vectors _ = false
+
+-- The form show HEX: one message, of 1 to 4,096 octets.
+unfoldable pub show_word : List ℕ
+show_word = codes "show"
+
+abbrev pub message_of : List ℕ → Option (List ℕ)
+message_of octets = if nat_le 1 (length octets) && nat_le (length octets) 4096 then Some octets else None
+
+unfoldable pub hex_octets : List ℕ → Option (List ℕ)
+hex_octets text = option_and_then message_of (result_ok (decode_of text))
+
+abbrev pub show_form : List (List ℕ) → Option (List ℕ)
+show_form (form ∷ hex ∷ []) = if pointwise nat_eq form show_word then hex_octets hex else None
+show_form _ = None
 
 -- what a script asks for beside a configuration
 abbrev pub scripted : WorldValues → Result (List Line) ScriptRefusal → Result (WorldValues × List Line) Stop
@@ -72,6 +88,9 @@ config_line key = codes "nas: config " ++ (key_text key ++ codes "\n")
 unfoldable pub script_line : ℕ → List ℕ
 script_line line = codes "nas: script " ++ (decimal line ++ codes "\n")
 
+unfoldable pub octets_line : ℕ → List ℕ
+octets_line place = codes "nas: octets " ++ (decimal place ++ codes "\n")
+
 -- a status, and the whole text
 pub record Answer : Type 0 where
   pub status : ℕ
@@ -82,6 +101,11 @@ words_answer = record { status = 2; text = words_line }
 
 abbrev pub vectors_answer : Answer
 vectors_answer = record { status = 0; text = vectors_text }
+
+-- a message as text, or the place where the octets are none
+abbrev pub shown_answer : Result (List ℕ) ℕ → Answer
+shown_answer (Ok text) = record { status = 0; text = text }
+shown_answer (Err place) = record { status = 13; text = octets_line place }
 
 abbrev pub file_answer : Answer
 file_answer = record { status = 5; text = file_line }

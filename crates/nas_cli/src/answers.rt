@@ -1,6 +1,7 @@
 //! What the program writes, and the statuses that go with it.
 ghost use Rattle.std.specs.Prelude.{◌≡◌, Err, Ok, IfOk, string_bytes};
-ghost use Rattle.nas_cli.specs.Program.{Says, answer_to, config_line, file_answer, script_line, too_long_line, vectors_answer, words_answer};
+ghost use Rattle.nas_cli.specs.Program.{Says, answer_to, config_line, file_answer, octets_line, script_line, shown_answer, too_long_line, vectors_answer, words_answer};
+ghost use Rattle.nas_show.specs.Shown.{shown};
 ghost use Rattle.nas_cli.specs.declared.plan.Stop.TheVariants as stops;
 
 use crate::plan::Run;
@@ -8,6 +9,7 @@ use crate::status::ExitStatus;
 use crate::vectors::vectors_of;
 use nas_base::{Sink, WriteRefusal};
 use nas_script::{Key, TranscriptFault, transcript};
+use nas_show::{ShowRefusal, show};
 use std::alloc::{AllocError, Global};
 
 /// Writes a text, and answers the status that goes with it.
@@ -38,6 +40,36 @@ pub fn tell_vectors<O: Sink>(alloc: Global, out: &mut O) -> ExitStatus
         Ok(text) => tell(alloc, out, text.as_slice(), ExitStatus(0)),
         Err(_) => ExitStatus(8),
     }
+}
+
+/// Octets as text.
+#[tactic(auto, using(crate::proofs::SayLaws::says_starved))]
+pub fn tell_shown<O: Sink>(alloc: Global, octets: &[u8], out: &mut O) -> ExitStatus
+    ensures { Says (O.written out.old) (O.written out.new) (O.fault_count out.old) (O.fault_count out.new) (shown_answer (shown octets.now)) result }
+{
+    match show(alloc, octets) {
+        Ok(text) => tell(alloc, out, text.as_slice(), ExitStatus(0)),
+        Err(ShowRefusal::Octets { place }) => tell_octets(alloc, place, out),
+        Err(ShowRefusal::Memory) => ExitStatus(8),
+    }
+}
+
+// The octets are no message.
+#[tactic(auto, using(crate::proofs::SayLaws::says_starved))]
+fn tell_octets<O: Sink>(alloc: Global, place: usize, out: &mut O) -> ExitStatus
+    ensures { Says (O.written out.old) (O.written out.new) (O.fault_count out.old) (O.fault_count out.new) (shown_answer (Err place)) result }
+{
+    match octets_text(alloc, place) {
+        Ok(text) => tell(alloc, out, text.as_bytes(), ExitStatus(13)),
+        Err(_) => ExitStatus(8),
+    }
+}
+
+#[tactic(auto, unfolding(crate::specs::Program::octets_line))]
+fn octets_text(alloc: Global, place: usize) -> Result<String, AllocError>
+    ensures { IfOk result (λ text. string_bytes text ≡ octets_line place) }
+{
+    format!(in alloc; "nas: octets {place}\n")
 }
 
 /// A file was refused.

@@ -1,24 +1,31 @@
 //! The program.
-ghost use Rattle.std.specs.Prelude.{◌≡◌, ◌≢◌, ◌∷◌, [], false, true, None, Some, IfSome, IfNone, option_map};
+ghost use Rattle.std.specs.Prelude.{◌≡◌, ◌≢◌, ◌∷◌, [], false, true, None, Some, IfOk, IfSome, IfNone, option_map};
 ghost use Rattle.nas_base.specs.Outside.{Rose};
-ghost use Rattle.nas_cli.specs.Program.{AsksFirst, IsOfContent, IsRefused, Says, SaysRun, asks, names_in, answer_to, planned, run_form, vectors_answer, words_answer, is_vectors};
+ghost use Rattle.nas_cli.specs.Program.{AsksFirst, IsOfContent, IsRefused, Says, SaysRun, asks, names_in, answer_to, planned, run_form, show_form, shown_answer, vectors_answer, words_answer, is_vectors, hex_octets};
+ghost use Rattle.nas_show.specs.Shown.{shown};
 ghost use Rattle.nas_cli.specs.Shelf.{octets_named};
 
 use crate::answers::{
-    tell_config, tell_file, tell_run, tell_script, tell_too_long, tell_vectors, tell_words,
+    tell_config, tell_file, tell_run, tell_script, tell_shown, tell_too_long, tell_vectors,
+    tell_words,
 };
 use crate::files::Files;
 use crate::plan::{Stop, read_run};
 use crate::shelf::MemoryFiles;
 use crate::status::ExitStatus;
 use crate::words::Words;
-use nas_base::{MemorySink, Sink};
+use hex::FromHexError;
+use nas_base::{Memory, MemorySink, Sink};
 use std::alloc::Global;
+
+// A message has at most so many octets.
+const LONGEST_MESSAGE: usize = 4096;
 
 /// All that the program does, over the words of its command line, the files and the output that it is handed.
 ///
-/// `run CONFIG SCRIPT` writes the transcript of the run that the two files ask for, and `vectors` the published vectors of
-/// the ciphers and key derivations; both end with 0. Words of no other form are known: they give 2. A fault of the files
+/// `run CONFIG SCRIPT` writes the transcript of the run that the two files ask for, `show HEX` the message in the octets, and
+/// `vectors` the published vectors of the ciphers and key derivations; all end with 0. Octets that are no message give 13.
+/// Words of no other form are known: they give 2. A fault of the files
 /// gives the line that names it, and its status.
 pub fn nas<F: Files, O: Sink>(
     alloc: Global,
@@ -26,8 +33,9 @@ pub fn nas<F: Files, O: Sink>(
     files: &mut F,
     out: &mut O,
 ) -> ExitStatus
-    ensures words { IfNone (run_form words.now) (is_vectors words.now ≡ false → Says (O.written out.old) (O.written out.new) (O.fault_count out.old) (O.fault_count out.new) words_answer result) }
+    ensures words { IfNone (run_form words.now) (is_vectors words.now ≡ false → IfNone (show_form words.now) (Says (O.written out.old) (O.written out.new) (O.fault_count out.old) (O.fault_count out.new) words_answer result)) }
     ensures vectors { is_vectors words.now ≡ true → Says (O.written out.old) (O.written out.new) (O.fault_count out.old) (O.fault_count out.new) vectors_answer result }
+    ensures show { IfSome (show_form words.now) (λ octets. Says (O.written out.old) (O.written out.new) (O.fault_count out.old) (O.fault_count out.new) (shown_answer (shown octets)) result) }
     ensures run { IfSome (run_form words.now) (λ names.
         SaysRun (F.content files.old) names (F.fault_count files.old) (F.fault_count files.new)
         (λ answer. Says (O.written out.old) (O.written out.new) (O.fault_count out.old) (O.fault_count out.new) answer result)) }
@@ -44,11 +52,11 @@ pub fn nas<F: Files, O: Sink>(
     ensures asked_both { IsOfContent result → F.asked files.new ≡ asks (names_in (run_form words.now)) (F.asked files.old) }
 
     // Words of a form never give 2.
-    ensures form { result ≡ 2 → (run_form words.now ≡ None) × (is_vectors words.now ≡ false) }
+    ensures form { result ≡ 2 → (run_form words.now ≡ None) × (is_vectors words.now ≡ false) × (show_form words.now ≡ None) }
 {
     match run_names(words) {
         Some((config, script)) => run(alloc, config, script, files, out),
-        None => vectors_or_words(alloc, words, out),
+        None => without_files(alloc, words, out),
     }
 }
 
@@ -62,26 +70,78 @@ pub fn nas_in_memory(
 ) -> ExitStatus
     ensures no_file_fault { result ≢ 5 }
     ensures no_output_fault { result ≢ 6 }
-    ensures words { IfNone (run_form words.now) (is_vectors words.now ≡ false → Says (Some out.old) (Some out.new) 0 0 words_answer result) }
+    ensures words { IfNone (run_form words.now) (is_vectors words.now ≡ false → IfNone (show_form words.now) (Says (Some out.old) (Some out.new) 0 0 words_answer result)) }
     ensures vectors { is_vectors words.now ≡ true → Says (Some out.old) (Some out.new) 0 0 vectors_answer result }
+    ensures show { IfSome (show_form words.now) (λ octets. Says (Some out.old) (Some out.new) 0 0 (shown_answer (shown octets)) result) }
     ensures run { IfSome (run_form words.now) (λ names. Says (Some out.old) (Some out.new) 0 0
         (answer_to (planned (Some (octets_named names.0 files.old.files)) (Some (octets_named names.1 files.old.files)))) result) }
 {
     nas(alloc, words, files, out)
 }
 
-// Writes the vectors where the words ask for them; else they are of no form.
-fn vectors_or_words<O: Sink>(alloc: Global, words: &Words, out: &mut O) -> ExitStatus
-    ensures words { is_vectors words.now ≡ false → Says (O.written out.old) (O.written out.new) (O.fault_count out.old) (O.fault_count out.new) words_answer result }
+// Writes the vectors, or the message to show, where the words ask for them; else they are of no form.
+fn without_files<O: Sink>(alloc: Global, words: &Words, out: &mut O) -> ExitStatus
+    ensures words { is_vectors words.now ≡ false → IfNone (show_form words.now) (Says (O.written out.old) (O.written out.new) (O.fault_count out.old) (O.fault_count out.new) words_answer result) }
     ensures vectors { is_vectors words.now ≡ true → Says (O.written out.old) (O.written out.new) (O.fault_count out.old) (O.fault_count out.new) vectors_answer result }
+    ensures show { IfSome (show_form words.now) (λ octets. Says (O.written out.old) (O.written out.new) (O.fault_count out.old) (O.fault_count out.new) (shown_answer (shown octets)) result) }
     ensures file_fault { result ≢ 5 }
     ensures output_fault { result ≡ 6 → Rose (O.fault_count out.old) (O.fault_count out.new) }
-    ensures form { result ≡ 2 → is_vectors words.now ≡ false }
+    ensures form { result ≡ 2 → (is_vectors words.now ≡ false) × (show_form words.now ≡ None) }
 {
     if asks_for_vectors(words) {
-        tell_vectors(alloc, out)
-    } else {
-        tell_words(alloc, out)
+        return tell_vectors(alloc, out);
+    }
+    show_or_words(alloc, words, out)
+}
+
+// Writes the message to show; else the words are of no form.
+#[tactic(auto, using(crate::proofs::SayLaws::says_starved))]
+fn show_or_words<O: Sink>(alloc: Global, words: &Words, out: &mut O) -> ExitStatus
+    ensures words { IfNone (show_form words.now) (Says (O.written out.old) (O.written out.new) (O.fault_count out.old) (O.fault_count out.new) words_answer result) }
+    ensures show { IfSome (show_form words.now) (λ octets. Says (O.written out.old) (O.written out.new) (O.fault_count out.old) (O.fault_count out.new) (shown_answer (shown octets)) result) }
+    ensures file_fault { result ≢ 5 }
+    ensures output_fault { result ≡ 6 → Rose (O.fault_count out.old) (O.fault_count out.new) }
+    ensures form { result ≡ 2 → show_form words.now ≡ None }
+{
+    match octets_to_show(alloc, words) {
+        Ok(Some(octets)) => tell_shown(alloc, octets.as_slice(), out),
+        Ok(None) => tell_words(alloc, out),
+        Err(Memory) => ExitStatus(8),
+    }
+}
+
+// The octets to show, where the words are `show HEX`.
+#[tactic(auto, unfolding(crate::specs::Program::show_word))]
+fn octets_to_show(alloc: Global, words: &Words) -> Result<Option<Vec<u8>>, Memory>
+    ensures { IfOk result (λ octets. option_map (λ v. v.items) octets ≡ show_form words.now) }
+{
+    match words.items.as_slice() {
+        [form, hex] => {
+            if form.as_str() == "show" {
+                octets_in(alloc, hex.as_str())
+            } else {
+                Ok(None)
+            }
+        }
+        _ => Ok(None),
+    }
+}
+
+// The 1 to 4,096 octets in hex, read in either case.
+#[tactic(auto, unfolding(crate::specs::Program::hex_octets))]
+fn octets_in(alloc: Global, text: &str) -> Result<Option<Vec<u8>>, Memory>
+    ensures { IfOk result (λ octets. option_map (λ v. v.items) octets ≡ hex_octets text.now) }
+{
+    match hex::decode(alloc, text) {
+        Ok(octets) => {
+            if octets.is_empty() || octets.len() > LONGEST_MESSAGE {
+                Ok(None)
+            } else {
+                Ok(Some(octets))
+            }
+        }
+        Err(FromHexError::OutOfMemory) => Err(Memory),
+        Err(_) => Ok(None),
     }
 }
 

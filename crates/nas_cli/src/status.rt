@@ -14,6 +14,7 @@ use std::marker::Model;
 /// | 6 | the output failed |
 /// | 8 | memory was wanting |
 /// | 11 | a file is too long, or the script has too many events |
+/// | 13 | the octets to show are no message |
 #[derive(Clone, Copy, Debug, PartialEq, Eq)]
 pub struct ExitStatus(pub u8);
 
