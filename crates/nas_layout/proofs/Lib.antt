@@ -1,2 +1,3 @@
 pub mod AbbaLaws
+pub mod ElementLaws
 pub mod SpellsLaws

@@ -102,7 +102,7 @@ pub record Framed (frame : Frame) (octets piece rest : List ℕ) : Type 0 where
 
 framed_octets : (n : ℕ) (p : Place) (piece : List ℕ) (place : Place) → octets_at n p ≡ Ok (piece, place) → Framed (V n) p.left piece place.left
 framed_octets n p piece place h =
-    let read = unneeded n p (Ok (take n p.left, past n p)) (piece, place) h in
+    let read : (n ≤ length p.left) × (Ok (take n p.left, past n p) ≡ Ok (piece, place)) = unneeded n p (Ok (take n p.left, past n p)) (piece, place) h in
     let same : (take n p.left, past n p) ≡ (piece, place) = cc (read.1) in
     let enough : n ≤ length p.left = read.0 in
     let long : length (take n p.left) ≡ n = grind (arith, common_steps, enough) in
