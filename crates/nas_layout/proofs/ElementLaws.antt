@@ -1,7 +1,6 @@
 -- Elements are found as they were written.
-use Rattle.std.proofs.Common.{◌≡◌, ◌∙◌, ℕ, ◌+◌, ◌*◌, ◌/◌, ◌^◌, ◌<◌, ◌==◌, Bool, true, false, List, [], ◌∷◌, ◌++◌, length, Option, Some, None, arith, refl, ap, sym}
+use Rattle.std.proofs.Common.{◌≡◌, ◌∙◌, ℕ, ◌+◌, ◌*◌, ◌/◌, ◌%◌, ◌^◌, ◌<◌, ◌==◌, Bool, true, false, List, [], ◌∷◌, ◌++◌, length, Option, Some, None, arith, refl, ap}
 use Rattle.std.specs.Prelude.{IfSome, not, ◌||◌, option_map, is_some}
-use Rattle.std.specs.List.{list_all}
 use Rattle.std.proofs.lemmas.Bool.Decides.{nat_tests}
 use Rattle.nas_base.proofs.FirstsLaws.{firsts_are_kept}
 use Rattle.nas_base.proofs.WrittenLaws.{written_are_read}
@@ -10,7 +9,9 @@ use Rattle.nas_base.specs.declared.shape.Form.TheVariants.{Half, Fixed, Tlv, Tlv
 use Rattle.nas_base.specs.Walking.{Element, RowParts, elements_in, firsts, form_in, form_of, high_of, identifier_in, kept, value_of}
 use Rattle.nas_base.specs.WalkLaws.{AreRows}
 use Rattle.nas_base.specs.Writing.{optional_tlv}
+use Rattle.nas_layout.specs.Half.{half_in}
 use Rattle.nas_layout.specs.Layout.{known, read_as}
+use Rattle.nas_layout.specs.Pieces.{half_value, is_alone}
 use Rattle.nas_layout.specs.Writing.{optional_half, optional_tlve, optional_tv}
 
 -- an identifier that a row has
@@ -40,9 +41,15 @@ tv_read shape iei n (Some octets) rest rows has size =
     let all : length octets + 1 ≡ n + 1 = omega (arith, size) in
     written_are_read.fixed shape (n + 1) iei octets rest rows (named shape iei (Fixed (n + 1)) has) (formed shape iei (Fixed (n + 1)) has) all
 
--- no other row has an identifier with the same high half
-abbrev pub is_alone : List RowParts → ℕ → Bool
-is_alone shape iei = list_all (λ (row : RowParts). row.iei == iei || not (row.iei / 16 == iei / 16)) shape
+-- an element's value that is written as octets: how many, and what they read as
+pub if_mapped : {X Y : Type 0} (P : Y → Type 0) (f : X → Y) (value : Option X) → IfSome value (λ x. P (f x)) → IfSome (option_map f value) P
+if_mapped P f None h = h
+if_mapped P f (Some x) h = h
+
+pub read_mapped : {X : Type 0} (reading : List ℕ → Option X) (octets_of : X → List ℕ) (value : Option X) →
+    IfSome value (λ x. reading (octets_of x) ≡ Some x) → read_as reading (option_map octets_of value) ≡ value
+read_mapped reading octets_of None h = refl
+read_mapped reading octets_of (Some x) h = h
 
 later : (row : RowParts) (rows : List RowParts) (iei half : ℕ) → (row.iei == iei || not (row.iei / 16 == iei / 16)) ≡ true → 16 * (iei / 16) ≡ iei
     → 0 < half → half < 16 → (b : Bool) → (row.iei == iei + half) ≡ b → form_of rows (iei + half) ≡ None → form_of (row ∷ rows) (iei + half) ≡ None
@@ -68,10 +75,6 @@ high_half shape iei half alone high has small = go (half == 0) refl where
       let same : high_of (iei + half) ≡ iei = omega arith in
       rw (unlisted shape iei half alone high some small, same, has) refl
 
--- the octet of an element of one octet
-abbrev pub half_value : ℕ → Option ℕ → Option (List ℕ)
-half_value iei value = option_map (λ half. (iei + half) ∷ []) value
-
 pub half_read : (shape : List RowParts) (iei : ℕ) (value : Option ℕ) (rest : List ℕ) → AreRows shape → form_of shape iei ≡ Some Half →
     is_alone shape iei ≡ true → high_of iei ≡ iei → IfSome value (λ half. half < 16)
     → elements_in shape (optional_half iei value ++ rest) ≡ kept iei (half_value iei value) (elements_in shape rest)
@@ -81,6 +84,10 @@ half_read shape iei (Some half) rest rows has alone high small =
     let is : form_in shape (identifier_in shape (iei + half)) ≡ Half = ap (form_in shape) id ∙ formed shape iei Half has in
     written_are_read.half shape (iei + half) rest rows is
     ∙ ap (λ (i : ℕ). record { iei = i; value = (iei + half) ∷ [] } ∷ elements_in shape rest) id
+
+pub half_mapped : (iei : ℕ) (value : Option ℕ) → high_of iei ≡ iei → IfSome value (λ half. half < 16) → read_as half_in (half_value iei value) ≡ value
+half_mapped iei None high small = refl
+half_mapped iei (Some half) high small = let low : (iei + half) % 16 ≡ half = omega arith in ap (λ (h : ℕ). Some h) low
 
 -- what was kept under an identifier is found, and what was kept under another is passed over
 pub kept_found : (iei : ℕ) (value : Option (List ℕ)) (es : List Element) → value_of iei es ≡ None → value_of iei (kept iei value es) ≡ value
