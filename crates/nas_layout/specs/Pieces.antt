@@ -42,7 +42,7 @@ piece_value (half iei value) = half_value iei value
 abbrev pub is_alone : List RowParts → ℕ → Bool
 is_alone shape iei = list_all (λ (row : RowParts). row.iei == iei || not (row.iei / 16 == iei / 16)) shape
 
--- it has the form of its row; another row may not have an identifier that a half's octet could be
+-- the form of a row: a length of one octet; of two; none, and n octets behind the identifier
 abbrev pub is_tlv : Option Form → Bool
 is_tlv None = false
 is_tlv (Some Half) = false
@@ -64,13 +64,14 @@ is_fixed n (Some (Fixed m)) = m == n + 1
 is_fixed n (Some Tlv) = false
 is_fixed n (Some Tlve) = false
 
+-- the element has the form of its row, and the octet of a half could be no other row's identifier
 abbrev pub is_piece_of : List RowParts → Piece → Bool
 is_piece_of shape (short iei value) = is_tlv (form_of shape iei)
 is_piece_of shape (long iei value) = is_tlve (form_of shape iei)
 is_piece_of shape (fixed iei n value) = is_fixed n (form_of shape iei)
 is_piece_of shape (half iei value) = is_half (form_of shape iei) && is_alone shape iei && high_of iei == iei
 
--- how long its value may be
+-- how long its value may be; a length of one octet is a number here, and has no limit
 abbrev pub FitsPiece : Piece → Type 0
 FitsPiece (short iei value) = Unit {0}
 FitsPiece (long iei value) = IfSome value (λ octets. length octets < 2 ^ 16)

@@ -8,6 +8,8 @@ mod elements;
 mod frame;
 mod half;
 mod laws;
+#[cfg(test)]
+mod tests;
 mod writing;
 mod written;
 
