@@ -4,6 +4,7 @@
 mod authentication;
 mod configuration_update;
 mod deregistration;
+mod element_laws;
 mod elements;
 mod halves;
 mod identification;
@@ -11,9 +12,11 @@ mod laws;
 mod message;
 mod parts;
 mod registration;
+mod registration_laws;
 mod rows;
 mod security_mode;
 mod service;
+mod service_laws;
 mod status_message;
 #[cfg(test)]
 mod tests;
