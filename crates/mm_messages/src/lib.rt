@@ -2,12 +2,16 @@
 #![tactic(auto)]
 
 mod authentication;
+mod authentication_laws;
 mod configuration_update;
+mod configuration_update_laws;
 mod deregistration;
+mod deregistration_laws;
 mod element_laws;
 mod elements;
 mod halves;
 mod identification;
+mod identification_laws;
 mod laws;
 mod message;
 mod parts;
@@ -15,12 +19,16 @@ mod registration;
 mod registration_laws;
 mod rows;
 mod security_mode;
+mod security_mode_laws;
 mod service;
 mod service_laws;
 mod status_message;
+mod status_message_laws;
 #[cfg(test)]
 mod tests;
 mod transport;
+mod transport_laws;
 
+pub use crate::laws::message_is_read_back;
 pub use crate::message::{Mm, MmRefusal, decode_mm, encode_mm};
 pub use crate::registration::RegistrationType;
