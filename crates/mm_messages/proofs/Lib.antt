@@ -1,1 +1,14 @@
+pub mod AuthenticationBack
+pub mod Back
+pub mod ConfigurationUpdateBack
+pub mod DeregistrationBack
+pub mod ElementsBack
+pub mod HalvesBack
+pub mod IdentificationBack
+pub mod PlainBack
+pub mod RegistrationBack
+pub mod SecurityModeBack
+pub mod ServiceBack
 pub mod SpellingLaws
+pub mod TransportBack
+pub mod ValuesBack

@@ -2,23 +2,35 @@
 #![tactic(auto)]
 
 mod authentication;
+mod authentication_laws;
 mod configuration_update;
+mod configuration_update_laws;
 mod deregistration;
+mod deregistration_laws;
+mod element_laws;
 mod elements;
 mod halves;
 mod identification;
+mod identification_laws;
 mod kind;
+mod laws;
 mod message;
 mod parts;
 mod registration;
+mod registration_laws;
 mod rows;
 mod security_mode;
+mod security_mode_laws;
 mod service;
+mod service_laws;
 mod status_message;
+mod status_message_laws;
 #[cfg(test)]
 mod tests;
 mod transport;
+mod transport_laws;
 
 pub use crate::kind::kind_of;
+pub use crate::laws::message_is_read_back;
 pub use crate::message::{Mm, MmRefusal, decode_mm, encode_mm};
 pub use crate::registration::RegistrationType;

@@ -1,0 +1,34 @@
+-- The command of a configuration update is read back.
+use Rattle.std.proofs.Common.{◌≡◌, ◌∙◌, ◌<◌, ℕ, List, [], ◌∷◌, Option, option_map, Ok, refl, sym, ap}
+use Rattle.std.specs.Prelude.{IfSome}
+use Rattle.nas_base.specs.Walking.{RowParts}
+use Rattle.nas_base.specs.declared.mm_kind.MmKind.TheVariants as kinds
+use Rattle.nas_elements.specs.Guti.{guti_in, guti_octets}
+use Rattle.nas_elements.specs.declared.guti.Guti.{Guti}
+use Rattle.nas_layout.proofs.ElementLaws.{half_mapped}
+use Rattle.nas_layout.specs.Half.{half_in}
+use Rattle.nas_layout.specs.Layout.{read_as}
+use Rattle.mm_messages.proofs.Back.{back}
+use Rattle.mm_messages.proofs.ElementsBack.{Piece, found_back, written}
+use Rattle.mm_messages.proofs.ElementsBack.Piece.{half, long}
+use Rattle.mm_messages.proofs.ValuesBack.{guti_long}
+use Rattle.mm_messages.specs.ConfigurationUpdate.{configuration_update_command, configuration_update_command_layout}
+use Rattle.mm_messages.specs.Messages.{mm_in, spelling}
+use Rattle.mm_messages.specs.Rows.{fixed_row, half_row, tlve_row}
+use Rattle.mm_messages.specs.declared.message.Mm.TheVariants.{ConfigurationUpdateCommand}
+
+abbrev rows : List RowParts
+rows = half_row 0xd0 ∷ tlve_row 0x77 ∷ fixed_row 0x46 2 ∷ fixed_row 0x47 8 ∷ []
+
+abbrev pieces : Option ℕ → Option Guti → List Piece
+pieces indication guti = half 0xd0 indication ∷ long 0x77 (option_map guti_octets guti) ∷ []
+
+pub configuration_update_command_back : (indication : Option ℕ) (guti : Option Guti) → IfSome indication (λ half. half < 16)
+    → read_as guti_in (option_map guti_octets guti) ≡ guti
+    → mm_in (spelling (ConfigurationUpdateCommand indication guti)) ≡ Ok (ConfigurationUpdateCommand indication guti)
+unfolding configuration_update_command configuration_update_command_layout
+configuration_update_command_back indication guti small named =
+    let found = found_back rows (pieces indication guti) refl ((refl, refl, refl, small), ((refl, guti_long guti), tt)) refl in
+    let i = ap (read_as half_in) (found 0xd0 refl) ∙ half_mapped 0xd0 indication refl small in
+    let g = ap (read_as guti_in) (found 0x77 refl) ∙ named in
+    back kinds.ConfigurationUpdateCommand (written (pieces indication guti)) (ConfigurationUpdateCommand indication guti) cc

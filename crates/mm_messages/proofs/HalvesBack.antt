@@ -1,0 +1,63 @@
+-- What stands in the halves of an octet is read back.
+use Rattle.std.proofs.Common.{◌≡◌, ◌<◌, ◌+◌, ◌*◌, ◌/◌, ◌%◌, ◌==◌, ℕ, Bool, true, false, arith, refl, ap, ◌∙◌}
+use Rattle.std.specs.Prelude.{if◌then◌else◌, nat_le}
+use Rattle.std.proofs.lemmas.Bool.Decides.{nat_tests}
+use Rattle.nas_elements.specs.Packed.{two_halves}
+use Rattle.mm_messages.specs.Parts.{deregistration_code, follow_on, high_half, is_switch_off, ksi_of, low_half, registration_type_code, registration_type_of}
+use Rattle.mm_messages.specs.declared.registration.RegistrationType.{RegistrationType}
+use Rattle.mm_messages.specs.declared.registration.RegistrationType.TheVariants.{Initial, Mobility, Periodic, Emergency}
+
+pub low_back : (low high : ℕ) → low < 16 → low_half (two_halves low high) ≡ low
+low_back low high small = omega arith
+
+pub high_back : (low high : ℕ) → low < 16 → high_half (two_halves low high) ≡ high
+high_back low high small = omega arith
+
+pub half_back : (half : ℕ) → half < 16 → low_half half ≡ half
+half_back half small = omega arith
+
+pub ksi_back : (ksi : ℕ) → ksi < 8 → ksi_of (low_half ksi) ≡ ksi
+ksi_back ksi range = omega arith
+
+pub low_ksi_back : (ksi high : ℕ) → ksi < 8 → ksi_of (low_half (two_halves ksi high)) ≡ ksi
+low_ksi_back ksi high range = omega arith
+
+pub high_ksi_back : (low ksi : ℕ) → low < 16 → ksi < 8 → ksi_of (high_half (two_halves low ksi)) ≡ ksi
+high_ksi_back low ksi small range = omega arith
+
+type_small : (registration : RegistrationType) → registration_type_code registration + follow_on < 16
+type_small Initial = omega arith
+type_small Mobility = omega arith
+type_small Periodic = omega arith
+type_small Emergency = omega arith
+
+type_of_code : (registration : RegistrationType) → registration_type_of (registration_type_code registration + follow_on) ≡ registration
+type_of_code Initial = refl
+type_of_code Mobility = refl
+type_of_code Periodic = refl
+type_of_code Emergency = refl
+
+pub type_back : (registration : RegistrationType) (ksi : ℕ) → registration_type_of (low_half (two_halves (registration_type_code registration + follow_on) ksi)) ≡ registration
+type_back registration ksi =
+    ap registration_type_of (low_back (registration_type_code registration + follow_on) ksi (type_small registration)) ∙ type_of_code registration
+
+pub type_ksi_back : (registration : RegistrationType) (ksi : ℕ) → ksi < 8 → ksi_of (high_half (two_halves (registration_type_code registration + follow_on) ksi)) ≡ ksi
+type_ksi_back registration ksi range = high_ksi_back (registration_type_code registration + follow_on) ksi (type_small registration) range
+
+pub switch_off_back : (switch_off : Bool) → is_switch_off (deregistration_code switch_off) ≡ switch_off
+switch_off_back true = refl
+switch_off_back false = refl
+
+deregistration_small : (switch_off : Bool) → deregistration_code switch_off < 16
+deregistration_small true = omega arith
+deregistration_small false = omega arith
+
+pub low_switch_off_back : (switch_off : Bool) (ksi : ℕ) → is_switch_off (two_halves (deregistration_code switch_off) ksi) ≡ switch_off
+low_switch_off_back switch_off ksi =
+    ap (λ (half : ℕ). nat_le 8 half) (low_back (deregistration_code switch_off) ksi (deregistration_small switch_off)) ∙ switch_off_there switch_off where
+  switch_off_there : (b : Bool) → nat_le 8 (deregistration_code b) ≡ b
+  switch_off_there true = refl
+  switch_off_there false = refl
+
+pub switch_off_ksi_back : (switch_off : Bool) (ksi : ℕ) → ksi < 8 → ksi_of (high_half (two_halves (deregistration_code switch_off) ksi)) ≡ ksi
+switch_off_ksi_back switch_off ksi range = high_ksi_back (deregistration_code switch_off) ksi (deregistration_small switch_off) range
