@@ -6,7 +6,8 @@ use Rattle.nas_base.specs.declared.shape.Form.TheVariants.{Half, Fixed, Tlv, Tlv
 use Rattle.nas_base.specs.Walking.{Element, RowParts, elements_in, firsts, form_of, high_of, kept, value_of}
 use Rattle.nas_base.specs.WalkLaws.{AreRows}
 use Rattle.nas_base.specs.Writing.{optional_tlv}
-use Rattle.nas_layout.proofs.ElementLaws.{firsts_found, half_read, half_value, is_alone, kept_found, kept_passed, tlv_read, tlve_read, tv_read}
+use Rattle.nas_layout.proofs.ElementLaws.{firsts_found, half_read, kept_found, kept_passed, tlv_read, tlve_read, tv_read}
+use Rattle.nas_layout.specs.Pieces.{half_value, is_alone}
 use Rattle.nas_layout.specs.Writing.{optional_half, optional_tlve, optional_tv}
 
 -- an element of a form, with its identifier and its value; one of fixed length also with the number of the value's octets

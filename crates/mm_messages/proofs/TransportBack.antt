@@ -1,5 +1,5 @@
 -- The messages that carry others are read back.
-use Rattle.std.proofs.Common.{◌≡◌, ◌∙◌, ◌<◌, ◌≤◌, ℕ, Bool, true, List, [], ◌∷◌, length, Option, Some, option_map, Ok, arith, refl, sym, ap}
+use Rattle.std.proofs.Common.{◌≡◌, ◌∙◌, ◌<◌, ◌≤◌, ℕ, true, List, [], ◌∷◌, length, Option, option_map, Ok, arith, refl, ap}
 use Rattle.std.specs.Prelude.{IfSome, is_some}
 use Rattle.nas_base.specs.Walking.{RowParts, elements_in, firsts, form_of, value_of}
 use Rattle.nas_base.specs.declared.mm_kind.MmKind.TheVariants as kinds
