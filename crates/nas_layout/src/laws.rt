@@ -9,9 +9,7 @@ use crate::{Abba, Half};
 /// A half that is written is read back.
 pub fn half_is_read_back(half: Half)
     ensures { half_in (half_octets half) ≡ Some half }
-{
-    let _half = half.0;
-}
+{}
 
 /// ABBA that is written is read back.
 pub fn abba_is_read_back(abba: &Abba)
