@@ -352,7 +352,10 @@ fn words_of_no_form_read_no_file(rt: HostRuntime) -> Result<(), Fail> {
         ["run", "config", "", ""],
         ["run", "config", "script", "more"],
         ["Run", "config", "script", ""],
-        ["show", "7e005d220002a020360102", "", ""],
+        ["show", "7e005d2", "", ""],
+        ["show", "7e004g", "", ""],
+        ["show", "7e0043", "7e0043", ""],
+        ["shows", "7e0043", "", ""],
         ["vectors", "config", "", ""],
     ];
     for row in &table {
@@ -369,6 +372,59 @@ fn words_of_no_form_read_no_file(rt: HostRuntime) -> Result<(), Fail> {
         assert!(rt; files.asked().is_empty());
     }
     Ok(())
+}
+
+// Shows the octets, and compares.
+fn compare_shown<R: Abort + AllocGlobal>(
+    rt: &R,
+    hex: &str,
+    status: u8,
+    text: &str,
+) -> Result<(), Fail> {
+    let alloc = rt.alloc();
+    let mut words = Words::new(alloc);
+    words.push(alloc, "show")?;
+    words.push(alloc, hex)?;
+    let mut files = MemoryFiles::new(alloc);
+    let mut out = MemorySink::new(alloc);
+    assert_eq!(rt; nas_in_memory(alloc, &words, &mut files, &mut out).0, status);
+    assert_eq!(rt; out.octets(), text.as_bytes());
+    assert!(rt; files.asked().is_empty());
+    Ok(())
+}
+
+#[test]
+fn octets_are_shown_or_told(rt: HostRuntime) -> Result<(), Fail> {
+    let table = [
+        (
+            "7e005d220002a020360102",
+            0,
+            "5gmm 5d\n  m 22\n  m 00\n  m 02a020\n  36 02\n",
+        ),
+        ("7E00440B", 0, "5gmm 44\n  m 0b\n"),
+        (
+            "7e0211223344057e0043",
+            0,
+            "protected 2 mac 11223344 sn 5\n",
+        ),
+        ("7e0041", 13, "nas: octets 3\n"),
+        ("7e02", 13, "nas: octets 2\n"),
+        ("7e007f", 13, "nas: octets 2\n"),
+        ("2e0101d324", 13, "nas: octets 0\n"),
+        ("", 2, "nas: words\n"),
+    ];
+    for (hex, status, text) in table {
+        compare_shown(&rt, hex, status, text)?;
+    }
+
+    // At most 4,096 octets.
+    let mut hex = String::from_str(rt.alloc(), "7e0064")?;
+    for _ in 0..4093 {
+        hex.push_str("00")?;
+    }
+    compare_shown(&rt, hex.as_str(), 0, "5gmm 64\n  m 00\n")?;
+    hex.push_str("00")?;
+    compare_shown(&rt, hex.as_str(), 2, "nas: words\n")
 }
 
 #[test]

@@ -4,5 +4,7 @@
 mod lines;
 mod pieces;
 mod showing;
+#[cfg(test)]
+mod tests;
 
 pub use crate::showing::{ShowRefusal, show};

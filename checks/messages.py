@@ -1,0 +1,101 @@
+"""Compares nas_probe's calls of mm_messages and nas_show with an executable model. See messages.sh.
+
+usage: messages.py MODEL PROBE [LINES [SEED]]
+"""
+import os
+import random
+import sys
+
+from elements import mutated
+from probe import compare, text
+
+# A message of each type, or more, to start from.
+MESSAGES = [
+    "7e004179000d0100f110f0ff000000000000102e02a02050022000",
+    "7e004109000bf200f110020040000000015200f1100000012e04a0200000",
+    "7e0042010177000bf200f1100200400000000154070000f11000000115020101500200005e0106",
+    "7e0043",
+    "7e004403",
+    "7e0045790007f4004000000001",
+    "7e0046",
+    "7e004701580a",
+    "7e0048",
+    "7e004c100007f400400000000150020400",
+    "7e004d0950022000",
+    "7e004e50022000",
+    "7e0054d177000bf200f1100200400000000146aa4700112233445566",
+    "7e0055",
+    "7e00560002000021000102030405060708090a0b0c0d0e0f2010101112131415161718191a1b1c1d1e1f",
+    "7e00572d10000102030405060708090a0b0c0d0e0f",
+    "7e0058",
+    "7e005915300e000102030405060708090a0b0c0d",
+    "7e005b01",
+    "7e005c000d0100f110f0ff00000000000010",
+    "7e005d220002a02036010257aa",
+    "7e005e7100037e0041",
+    "7e005f17",
+    "7e006461",
+    "7e00670100042e0101d3120181220401010203250908696e7465726e657459aa",
+    "7e00680100032e01011205585a",
+    "7e0211223344057e0043",
+]
+# Elements known to some messages and unknown to others, whole, doubled and cut.
+ELEMENTS = [
+    "2e02a020", "50022000", "50030400ff", "77000bf200f11002004000000001", "770007f4004000000001", "54070000f110000001", "150401010202",
+    "1500", "5e0106", "5e020601", "d3", "81", "a1", "1205", "585a", "36010f", "7100027e00", "22010a", "2203010203", "25020161", "2502ff61",
+    "21" + "00" * 16, "2010" + "11" * 16, "2d10" + "22" * 16, "300e" + "33" * 14, "7b000100", "3f02aabb", "01ff", "7affff", "50",
+]
+
+
+def given(rng):
+    """Octets: a message with elements behind it, then changed a little; or any."""
+    if rng.random() < 0.05:
+        return rng.randbytes(rng.randint(0, 30))
+    octets = bytes.fromhex(rng.choice(MESSAGES))
+    for _ in range(rng.choice([0, 0, 0, 1, 2, 3])):
+        octets += bytes.fromhex(rng.choice(ELEMENTS))
+    return mutated(rng, octets) if rng.random() < 0.7 else octets
+
+
+def decoded(codec, octets):
+    """The octets that the model writes the message as, or why there is none."""
+    try:
+        return text(codec.encode_mm(codec.decode_mm(octets)))
+    except codec.Ignored as refusal:
+        return f"ignored {refusal.at}"
+    except codec.UnknownType as refusal:
+        return f"unknown {refusal.n}"
+    except codec.Mandatory as refusal:
+        return f"mandatory {refusal.part} {refusal.at}"
+
+
+def shown(codec, octets):
+    """The model's text with a stroke for each line's end, or the place of the fault."""
+    if octets[:1] == b"\x2e":  # 5GSM messages aren't shown yet
+        return "octets 0"
+    try:
+        return "".join(line + "|" for line in codec.show(octets))
+    except codec.ShowRefusal as refusal:
+        return f"octets {refusal.place}"
+
+
+def case(rng, codec):
+    octets = given(rng)
+    call, answer = rng.choice([("mm", decoded), ("show", shown)])
+    return f"{call} {text(octets)}", answer(codec, octets)
+
+
+def main():
+    model, probe = sys.argv[1:3]
+    lines = int(sys.argv[3]) if len(sys.argv) > 3 else 4000
+    seed = int(sys.argv[4]) if len(sys.argv) > 4 else 1
+    sys.path.insert(0, os.path.dirname(os.path.abspath(model)))
+    import nas_codec as codec
+
+    rng = random.Random(seed)
+    cases = [case(rng, codec) for _ in range(lines)]
+    return compare("messages", probe, cases, "the model", seed)
+
+
+if __name__ == "__main__":
+    sys.exit(main())
