@@ -9,6 +9,7 @@ pub mod PlainBack
 pub mod RegistrationBack
 pub mod SecurityModeBack
 pub mod ServiceBack
+pub mod SpelledLaws
 pub mod SpellingLaws
 pub mod TransportBack
 pub mod ValuesBack

@@ -22,6 +22,7 @@ mod security_mode;
 mod security_mode_laws;
 mod service;
 mod service_laws;
+mod spelling_laws;
 mod status_message;
 mod status_message_laws;
 #[cfg(test)]
@@ -32,3 +33,4 @@ mod transport_laws;
 pub use crate::laws::message_is_read_back;
 pub use crate::message::{Mm, MmRefusal, decode_mm, encode_mm};
 pub use crate::registration::RegistrationType;
+pub use crate::spelling_laws::messages_are_spelled;
