@@ -3,6 +3,7 @@ pub mod Back
 pub mod ConfigurationUpdateBack
 pub mod DeregistrationBack
 pub mod ElementsBack
+pub mod FirstElementsLaws
 pub mod HalvesBack
 pub mod IdentificationBack
 pub mod PlainBack
@@ -13,3 +14,4 @@ pub mod SpelledLaws
 pub mod SpellingLaws
 pub mod TransportBack
 pub mod ValuesBack
+pub mod WalkedWhole

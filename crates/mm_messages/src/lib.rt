@@ -33,4 +33,4 @@ mod transport_laws;
 pub use crate::laws::message_is_read_back;
 pub use crate::message::{Mm, MmRefusal, decode_mm, encode_mm};
 pub use crate::registration::RegistrationType;
-pub use crate::spelling_laws::messages_are_spelled;
+pub use crate::spelling_laws::{first_elements_count, messages_are_spelled};
