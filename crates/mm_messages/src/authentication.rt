@@ -17,10 +17,7 @@ pub fn read_request(reader: &mut Reader) -> Result<Mm, BodyRefusal>
 {
     let first = parts::octet(1, reader)?;
     let abba = parts::abba(2, reader)?;
-    let found = walk(
-        reader.left(),
-        &shape(&[fixed_row(0x21, 17), tlv_row(0x20)]),
-    );
+    let found = walk(reader.left(), &shape(&[fixed_row(0x21, 17), tlv_row(0x20)]));
     Ok(Mm::AuthenticationRequest {
         ksi: Ksi(first % 16 % 8),
         abba,
@@ -61,10 +58,7 @@ pub fn read_response(reader: &mut Reader) -> Result<Mm, BodyRefusal>
 
 /// Writes an AUTHENTICATION RESPONSE.
 #[tactic(auto, unfolding(crate::specs::Authentication::authentication_response))]
-pub fn write_response(
-    res: &Option<[u8; 16]>,
-    out: &mut Writer,
-) -> Result<(), Full>
+pub fn write_response(res: &Option<[u8; 16]>, out: &mut Writer) -> Result<(), Full>
     ensures { Writes (authentication_response res.now) out.old out.new result }
 {
     out.fits(3 + tlv_size(res))?;
@@ -87,11 +81,7 @@ pub fn read_failure(reader: &mut Reader) -> Result<Mm, BodyRefusal>
 
 /// Writes an AUTHENTICATION FAILURE.
 #[tactic(auto, unfolding(crate::specs::Authentication::authentication_failure))]
-pub fn write_failure(
-    cause: u8,
-    auts: &Option<[u8; 14]>,
-    out: &mut Writer,
-) -> Result<(), Full>
+pub fn write_failure(cause: u8, auts: &Option<[u8; 14]>, out: &mut Writer) -> Result<(), Full>
     ensures { Writes (authentication_failure cause auts.now) out.old out.new result }
 {
     out.fits(4 + tlv_size(auts))?;

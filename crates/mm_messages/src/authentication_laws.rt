@@ -9,12 +9,7 @@ use nas_layout::Abba;
 
 /// AUTHENTICATION REQUEST.
 #[tactic(auto, using(crate::proofs::AuthenticationBack::authentication_request_back))]
-pub fn request(
-    ksi: Ksi,
-    abba: &Abba,
-    rand: &Option<[u8; 16]>,
-    autn: &Option<[u8; 16]>,
-)
+pub fn request(ksi: Ksi, abba: &Abba, rand: &Option<[u8; 16]>, autn: &Option<[u8; 16]>)
     ensures { mm_in (spelling (AuthenticationRequest ksi abba.now rand.now autn.now)) ≡ Ok (AuthenticationRequest ksi abba.now rand.now autn.now) }
 {
     let _ksi = ksi.0;

@@ -18,7 +18,12 @@ pub fn read_command(reader: &mut Reader) -> Result<Mm, BodyRefusal>
 {
     let found = walk(
         reader.left(),
-        &shape(&[half_row(0xd0), tlve_row(0x77), fixed_row(0x46, 2), fixed_row(0x47, 8)]),
+        &shape(&[
+            half_row(0xd0),
+            tlve_row(0x77),
+            fixed_row(0x46, 2),
+            fixed_row(0x47, 8),
+        ]),
     );
     Ok(Mm::ConfigurationUpdateCommand {
         indication: elements::indication(&found),

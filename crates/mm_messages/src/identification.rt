@@ -24,10 +24,7 @@ pub fn read_request(reader: &mut Reader) -> Result<Mm, BodyRefusal>
 
 /// Writes an IDENTITY REQUEST.
 #[tactic(auto, unfolding(crate::specs::Identification::identity_request))]
-pub fn write_request(
-    identity_type: Half,
-    out: &mut Writer,
-) -> Result<(), Full>
+pub fn write_request(identity_type: Half, out: &mut Writer) -> Result<(), Full>
     ensures { Writes (identity_request identity_type) out.old out.new result }
 {
     out.fits(4)?;
@@ -46,10 +43,7 @@ pub fn read_response(alloc: Global, reader: &mut Reader) -> Result<Mm, BodyRefus
 
 /// Writes an IDENTITY RESPONSE.
 #[tactic(auto, unfolding(crate::specs::Identification::identity_response))]
-pub fn write_response(
-    identity: &Identity,
-    out: &mut Writer,
-) -> Result<(), Full>
+pub fn write_response(identity: &Identity, out: &mut Writer) -> Result<(), Full>
     ensures { Writes (identity_response identity.now) out.old out.new result }
 {
     out.fits(3 + lve_size(identity))?;

@@ -11,7 +11,9 @@ use crate::{
     registration, security_mode, service, status_message, transport,
 };
 use nas_base::{Full, Ksi, MmKind, Octets, Reader, Writer};
-use nas_elements::{Algs, Asi, Capability, Dnn, Guti, Identity, Nssai, Slice, Status, TaiList, Timer3};
+use nas_elements::{
+    Algs, Asi, Capability, Dnn, Guti, Identity, Nssai, Slice, Status, TaiList, Timer3,
+};
 use nas_layout::{Abba, BodyRefusal, Half};
 use std::alloc::Global;
 
@@ -288,7 +290,15 @@ pub fn encode_mm(value: &Mm, out: &mut Writer) -> Result<(), Full>
             request_type,
             slice,
             dnn,
-        } => transport::write_ul(*container_type, container, psi, request_type, slice, dnn, out),
+        } => transport::write_ul(
+            *container_type,
+            container,
+            psi,
+            request_type,
+            slice,
+            dnn,
+            out,
+        ),
         Mm::DlNasTransport {
             container_type,
             container,

@@ -59,7 +59,10 @@ pub fn read_request(alloc: Global, reader: &mut Reader) -> Result<Mm, BodyRefusa
 {
     let first = parts::octet(1, reader)?;
     let identity = parts::identity(alloc, 2, reader)?;
-    let found = walk(reader.left(), &shape(&[tlv_row(0x2e), tlv_row(0x50), fixed_row(0x52, 7)]));
+    let found = walk(
+        reader.left(),
+        &shape(&[tlv_row(0x2e), tlv_row(0x50), fixed_row(0x52, 7)]),
+    );
     Ok(Mm::RegistrationRequest {
         registration: RegistrationType::of(first % 16),
         ksi: Ksi(first / 16 % 8),
@@ -77,7 +80,13 @@ pub fn read_accept(reader: &mut Reader) -> Result<Mm, BodyRefusal>
     let result = parts::registration_result(1, reader)?;
     let found = walk(
         reader.left(),
-        &shape(&[tlve_row(0x77), tlv_row(0x54), tlv_row(0x15), tlv_row(0x50), tlv_row(0x5e)]),
+        &shape(&[
+            tlve_row(0x77),
+            tlv_row(0x54),
+            tlv_row(0x15),
+            tlv_row(0x50),
+            tlv_row(0x5e),
+        ]),
     );
     Ok(Mm::RegistrationAccept {
         result,

@@ -20,10 +20,7 @@ pub fn read_command(reader: &mut Reader) -> Result<Mm, BodyRefusal>
     let algs = parts::algs(1, reader)?;
     let second = parts::octet(2, reader)?;
     let capability = parts::capability(3, reader)?;
-    let found = walk(
-        reader.left(),
-        &shape(&[tlv_row(0x36), fixed_row(0x57, 2)]),
-    );
+    let found = walk(reader.left(), &shape(&[tlv_row(0x36), fixed_row(0x57, 2)]));
     Ok(Mm::SecurityModeCommand {
         algs,
         ksi: Ksi(second % 16 % 8),
@@ -64,10 +61,7 @@ pub fn read_complete(alloc: Global, reader: &mut Reader) -> Result<Mm, BodyRefus
 
 /// Writes a SECURITY MODE COMPLETE.
 #[tactic(auto, unfolding(crate::specs::SecurityMode::security_mode_complete))]
-pub fn write_complete(
-    message: &Option<Octets>,
-    out: &mut Writer,
-) -> Result<(), Full>
+pub fn write_complete(message: &Option<Octets>, out: &mut Writer) -> Result<(), Full>
     ensures { Writes (security_mode_complete message.now) out.old out.new result }
 {
     out.fits(3 + tlve_size(message))?;
@@ -86,10 +80,7 @@ pub fn read_reject(reader: &mut Reader) -> Result<Mm, BodyRefusal>
 
 /// Writes a SECURITY MODE REJECT.
 #[tactic(auto, unfolding(crate::specs::SecurityMode::security_mode_reject))]
-pub fn write_reject(
-    cause: u8,
-    out: &mut Writer,
-) -> Result<(), Full>
+pub fn write_reject(cause: u8, out: &mut Writer) -> Result<(), Full>
     ensures { Writes (security_mode_reject cause) out.old out.new result }
 {
     out.fits(4)?;

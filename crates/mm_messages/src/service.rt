@@ -62,11 +62,7 @@ pub fn read_reject(reader: &mut Reader) -> Result<Mm, BodyRefusal>
 
 /// Writes a SERVICE REJECT.
 #[tactic(auto, unfolding(crate::specs::Service::service_reject))]
-pub fn write_reject(
-    cause: u8,
-    status: &Option<Status>,
-    out: &mut Writer,
-) -> Result<(), Full>
+pub fn write_reject(cause: u8, status: &Option<Status>, out: &mut Writer) -> Result<(), Full>
     ensures { Writes (service_reject cause status.now) out.old out.new result }
 {
     out.fits(4 + tlv_size(status))?;
@@ -88,10 +84,7 @@ pub fn read_accept(reader: &mut Reader) -> Result<Mm, BodyRefusal>
 
 /// Writes a SERVICE ACCEPT.
 #[tactic(auto, unfolding(crate::specs::Service::service_accept))]
-pub fn write_accept(
-    status: &Option<Status>,
-    out: &mut Writer,
-) -> Result<(), Full>
+pub fn write_accept(status: &Option<Status>, out: &mut Writer) -> Result<(), Full>
     ensures { Writes (service_accept status.now) out.old out.new result }
 {
     out.fits(3 + tlv_size(status))?;

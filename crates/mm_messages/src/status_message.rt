@@ -20,10 +20,7 @@ pub fn read(reader: &mut Reader) -> Result<Mm, BodyRefusal>
 
 /// Writes a 5GMM STATUS.
 #[tactic(auto, unfolding(crate::specs::StatusMessage::five_gmm_status))]
-pub fn write(
-    cause: u8,
-    out: &mut Writer,
-) -> Result<(), Full>
+pub fn write(cause: u8, out: &mut Writer) -> Result<(), Full>
     ensures { Writes (five_gmm_status cause) out.old out.new result }
 {
     out.fits(4)?;

@@ -145,20 +145,53 @@ fn octets_that_are_no_message(rt: HostRuntime) -> Result<(), Fail> {
         (&[0x7e, 0, 0x7f], MmRefusal::UnknownType { n: 0x7f }),
         (&[0x7e, 0, 0x49], MmRefusal::UnknownType { n: 0x49 }),
         (&[0x7e, 0, 0x41], MmRefusal::Mandatory { part: 1, at: 3 }),
-        (&[0x7e, 0, 0x41, 0x79], MmRefusal::Mandatory { part: 2, at: 4 }),
-        (&[0x7e, 0, 0x41, 0x79, 0], MmRefusal::Mandatory { part: 2, at: 4 }),
-        (&[0x7e, 0, 0x41, 0x79, 0, 0], MmRefusal::Mandatory { part: 2, at: 4 }),
+        (
+            &[0x7e, 0, 0x41, 0x79],
+            MmRefusal::Mandatory { part: 2, at: 4 },
+        ),
+        (
+            &[0x7e, 0, 0x41, 0x79, 0],
+            MmRefusal::Mandatory { part: 2, at: 4 },
+        ),
+        (
+            &[0x7e, 0, 0x41, 0x79, 0, 0],
+            MmRefusal::Mandatory { part: 2, at: 4 },
+        ),
         // The length of the identity runs past the message, by one octet and by many.
-        (&[0x7e, 0, 0x41, 0x79, 0, 2, 9], MmRefusal::Mandatory { part: 2, at: 4 }),
-        (&[0x7e, 0, 0x41, 0x79, 1, 1, 9], MmRefusal::Mandatory { part: 2, at: 4 }),
-        (&[0x7e, 0, 0x42, 2, 1, 1], MmRefusal::Mandatory { part: 1, at: 3 }),
+        (
+            &[0x7e, 0, 0x41, 0x79, 0, 2, 9],
+            MmRefusal::Mandatory { part: 2, at: 4 },
+        ),
+        (
+            &[0x7e, 0, 0x41, 0x79, 1, 1, 9],
+            MmRefusal::Mandatory { part: 2, at: 4 },
+        ),
+        (
+            &[0x7e, 0, 0x42, 2, 1, 1],
+            MmRefusal::Mandatory { part: 1, at: 3 },
+        ),
         (&[0x7e, 0, 0x42, 0], MmRefusal::Mandatory { part: 1, at: 3 }),
         (&[0x7e, 0, 0x44], MmRefusal::Mandatory { part: 1, at: 3 }),
-        (&[0x7e, 0, 0x56, 0, 1, 0], MmRefusal::Mandatory { part: 2, at: 4 }),
-        (&[0x7e, 0, 0x5c, 0, 0], MmRefusal::Mandatory { part: 1, at: 3 }),
-        (&[0x7e, 0, 0x5d, 0x22], MmRefusal::Mandatory { part: 2, at: 4 }),
-        (&[0x7e, 0, 0x5d, 0x22, 0, 1, 0], MmRefusal::Mandatory { part: 3, at: 5 }),
-        (&[0x7e, 0, 0x67, 1, 0, 1], MmRefusal::Mandatory { part: 2, at: 4 }),
+        (
+            &[0x7e, 0, 0x56, 0, 1, 0],
+            MmRefusal::Mandatory { part: 2, at: 4 },
+        ),
+        (
+            &[0x7e, 0, 0x5c, 0, 0],
+            MmRefusal::Mandatory { part: 1, at: 3 },
+        ),
+        (
+            &[0x7e, 0, 0x5d, 0x22],
+            MmRefusal::Mandatory { part: 2, at: 4 },
+        ),
+        (
+            &[0x7e, 0, 0x5d, 0x22, 0, 1, 0],
+            MmRefusal::Mandatory { part: 3, at: 5 },
+        ),
+        (
+            &[0x7e, 0, 0x67, 1, 0, 1],
+            MmRefusal::Mandatory { part: 2, at: 4 },
+        ),
         (&[0x7e, 0, 0x64], MmRefusal::Mandatory { part: 1, at: 3 }),
     ];
     for (octets, wanted) in table {

@@ -9,7 +9,9 @@ use crate::rows::{fixed_row, half_row, shape, tlv_row};
 use crate::{elements, parts};
 use nas_base::{Full, MmKind, Octets, Reader, Writer, walk};
 use nas_elements::{Dnn, Slice};
-use nas_layout::{BodyRefusal, Half, half_tv, half_tv_size, lve, lve_size, tlv, tlv_size, tv, tv_size};
+use nas_layout::{
+    BodyRefusal, Half, half_tv, half_tv_size, lve, lve_size, tlv, tlv_size, tv, tv_size,
+};
 use std::alloc::Global;
 
 /// Reads what stands behind the head of an UL NAS TRANSPORT.
