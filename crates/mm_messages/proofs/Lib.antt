@@ -2,7 +2,6 @@ pub mod AuthenticationBack
 pub mod Back
 pub mod ConfigurationUpdateBack
 pub mod DeregistrationBack
-pub mod ElementsBack
 pub mod FirstElementsLaws
 pub mod HalvesBack
 pub mod IdentificationBack

@@ -1,7 +1,6 @@
 -- Elements are found as they were written.
-use Rattle.std.proofs.Common.{◌≡◌, ◌∙◌, ℕ, ◌+◌, ◌*◌, ◌/◌, ◌%◌, ◌^◌, ◌<◌, ◌==◌, Bool, true, false, List, [], ◌∷◌, ◌++◌, length, Option, Some, None, arith, refl, ap, sym}
-use Rattle.std.specs.Prelude.{IfSome, not, ◌&&◌, ◌||◌, option_map, is_some, if◌then◌else◌}
-use Rattle.std.specs.List.{list_all}
+use Rattle.std.proofs.Common.{◌≡◌, ◌∙◌, ℕ, ◌+◌, ◌*◌, ◌/◌, ◌%◌, ◌^◌, ◌<◌, ◌==◌, Bool, true, false, List, [], ◌∷◌, ◌++◌, length, Option, Some, None, arith, refl, ap}
+use Rattle.std.specs.Prelude.{IfSome, not, ◌||◌, option_map, is_some}
 use Rattle.std.proofs.lemmas.Bool.Decides.{nat_tests}
 use Rattle.nas_base.proofs.FirstsLaws.{firsts_are_kept}
 use Rattle.nas_base.proofs.WrittenLaws.{written_are_read}
@@ -12,6 +11,7 @@ use Rattle.nas_base.specs.WalkLaws.{AreRows}
 use Rattle.nas_base.specs.Writing.{optional_tlv}
 use Rattle.nas_layout.specs.Half.{half_in}
 use Rattle.nas_layout.specs.Layout.{known, read_as}
+use Rattle.nas_layout.specs.Pieces.{half_value, is_alone}
 use Rattle.nas_layout.specs.Writing.{optional_half, optional_tlve, optional_tv}
 
 -- an identifier that a row has
@@ -51,10 +51,6 @@ pub read_mapped : {X : Type 0} (reading : List ℕ → Option X) (octets_of : X 
 read_mapped reading octets_of None h = refl
 read_mapped reading octets_of (Some x) h = h
 
--- no other row has an identifier with the same high half
-abbrev pub is_alone : List RowParts → ℕ → Bool
-is_alone shape iei = list_all (λ (row : RowParts). row.iei == iei || not (row.iei / 16 == iei / 16)) shape
-
 later : (row : RowParts) (rows : List RowParts) (iei half : ℕ) → (row.iei == iei || not (row.iei / 16 == iei / 16)) ≡ true → 16 * (iei / 16) ≡ iei
     → 0 < half → half < 16 → (b : Bool) → (row.iei == iei + half) ≡ b → form_of rows (iei + half) ≡ None → form_of (row ∷ rows) (iei + half) ≡ None
 later row rows iei half apart high some small true is none = grind (arith, nat_tests)
@@ -78,10 +74,6 @@ high_half shape iei half alone high has small = go (half == 0) refl where
       let some : 0 < half = grind (arith, nat_tests) in
       let same : high_of (iei + half) ≡ iei = omega arith in
       rw (unlisted shape iei half alone high some small, same, has) refl
-
--- the octet of an element of one octet
-abbrev pub half_value : ℕ → Option ℕ → Option (List ℕ)
-half_value iei value = option_map (λ half. (iei + half) ∷ []) value
 
 pub half_read : (shape : List RowParts) (iei : ℕ) (value : Option ℕ) (rest : List ℕ) → AreRows shape → form_of shape iei ≡ Some Half →
     is_alone shape iei ≡ true → high_of iei ≡ iei → IfSome value (λ half. half < 16)

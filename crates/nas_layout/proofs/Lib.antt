@@ -1,3 +1,4 @@
 pub mod AbbaLaws
 pub mod ElementLaws
+pub mod PieceLaws
 pub mod SpellsLaws

@@ -100,16 +100,17 @@ pub record Framed (frame : Frame) (octets piece rest : List ℕ) : Type 0 where
   pub fits : Fits frame piece
   pub whole : octets ≡ framed frame piece ++ rest
 
+front_long : (n : ℕ) (octets : List ℕ) → n ≤ length octets → length (take n octets) ≡ n
+front_long n octets enough = grind (arith, common_steps)
+
 framed_octets : (n : ℕ) (p : Place) (piece : List ℕ) (place : Place) → octets_at n p ≡ Ok (piece, place) → Framed (V n) p.left piece place.left
 framed_octets n p piece place h =
     let read : (n ≤ length p.left) × (Ok (take n p.left, past n p) ≡ Ok (piece, place)) = unneeded n p (Ok (take n p.left, past n p)) (piece, place) h in
     let same : (take n p.left, past n p) ≡ (piece, place) = cc (read.1) in
-    let enough : n ≤ length p.left = read.0 in
-    let long : length (take n p.left) ≡ n = grind (arith, common_steps, enough) in
     let front : take n p.left ≡ piece = ap (λ (c : List ℕ × Place). c.0) same in
     let behind : drop n p.left ≡ place.left = ap (λ (c : List ℕ × Place). c.1.left) same in
     record {
-      fits = rw (← front) long;
+      fits = rw (← front) (front_long n p.left read.0);
       whole = rw (← front, ← behind) (sym (take-append-drop n p.left));
     }
 

@@ -7,6 +7,9 @@ mod body;
 mod elements;
 mod frame;
 mod half;
+mod laws;
+#[cfg(test)]
+mod tests;
 mod writing;
 mod written;
 
@@ -14,6 +17,7 @@ pub use crate::abba::Abba;
 pub use crate::body::{BodyRefusal, cut, value};
 pub use crate::frame::Frame;
 pub use crate::half::Half;
+pub use crate::laws::{abba_is_read_back, half_is_read_back, written_are_found};
 pub use crate::writing::{
     half_tv, half_tv_size, lv, lv_size, lve, lve_size, tlv, tlv_size, tlve, tlve_size, tv, tv_size,
 };

@@ -1,0 +1,5 @@
+use Rattle.nas_layout.proofs.PieceLaws.{written_are_found}
+use Rattle.nas_layout.proofs.laws.written_are_found.Goals as goal
+
+pub returns : goal.returns
+returns c = written_are_found
