@@ -1,8 +1,8 @@
 -- What is spelled by the table of a kind is read, with its head.
-use Rattle.std.proofs.Common.{◌≡◌, ℕ, ◌%◌, Bool, true, false, not, nat_lt, ◌==◌, ◌&&◌, List, [], ◌∷◌, ◌++◌, length, slice_index, drop, Option, Some, None, Ok, if◌then◌else◌, arith, refl, ap, ◌∙◌}
+use Rattle.std.proofs.Common.{◌≡◌, ℕ, ◌%◌, Bool, true, false, not, nat_lt, ◌==◌, ◌&&◌, List, ◌∷◌, ◌++◌, length, Option, Ok, if◌then◌else◌, arith, refl, ap, ◌∙◌}
 use Rattle.std.proofs.lemmas.Bool.Decides.{nat_tests}
 use Rattle.nas_base.proofs.KindLaws.{kinds_have_types}
-use Rattle.nas_base.specs.Kinds.{mm_kind, mm_type}
+use Rattle.nas_base.specs.Kinds.{mm_type}
 use Rattle.nas_base.specs.declared.mm_kind.MmKind.{MmKind}
 use Rattle.nas_layout.proofs.SpellsLaws.{spelled_laid}
 use Rattle.nas_layout.specs.Layout.{Spells, laid}

@@ -1,5 +1,5 @@
 -- The command of a configuration update is read back.
-use Rattle.std.proofs.Common.{◌≡◌, ◌∙◌, ◌<◌, ℕ, List, [], ◌∷◌, Option, option_map, Ok, refl, sym, ap}
+use Rattle.std.proofs.Common.{◌≡◌, ◌∙◌, ◌<◌, ℕ, List, [], ◌∷◌, Option, option_map, Ok, refl}
 use Rattle.std.specs.Prelude.{IfSome}
 use Rattle.nas_base.specs.Walking.{RowParts}
 use Rattle.nas_base.specs.declared.mm_kind.MmKind.TheVariants as kinds

@@ -1,5 +1,5 @@
 -- The requests of a de-registration are read back.
-use Rattle.std.proofs.Common.{◌≡◌, ◌∙◌, ◌<◌, ◌≤◌, ℕ, Bool, List, [], ◌∷◌, length, Option, Some, option_map, Ok, append-nil, arith, refl, sym, ap}
+use Rattle.std.proofs.Common.{◌≡◌, ◌∙◌, ◌<◌, ◌≤◌, ℕ, Bool, List, [], ◌∷◌, length, Option, Some, option_map, Ok, append-nil, arith, refl, sym}
 use Rattle.nas_base.specs.Walking.{RowParts, elements_in, firsts}
 use Rattle.nas_base.specs.Writing.{lve}
 use Rattle.nas_base.specs.declared.mm_kind.MmKind.TheVariants as kinds
@@ -15,7 +15,7 @@ use Rattle.mm_messages.proofs.HalvesBack.{low_switch_off_back, switch_off_back, 
 use Rattle.mm_messages.proofs.ValuesBack.{octet_back, one_octet_long}
 use Rattle.mm_messages.specs.Deregistration.{deregistration_request_ue_originating, deregistration_request_ue_originating_layout, deregistration_request_ue_terminated, deregistration_request_ue_terminated_layout}
 use Rattle.mm_messages.specs.Messages.{mm_in, spelling}
-use Rattle.mm_messages.specs.Parts.{deregistration_code, high_half, is_switch_off, ksi_of, octet_in, one_octet}
+use Rattle.mm_messages.specs.Parts.{deregistration_code, is_switch_off, octet_in, one_octet}
 use Rattle.mm_messages.specs.Rows.{fixed_row}
 use Rattle.mm_messages.specs.declared.message.Mm.TheVariants.{DeregistrationRequestUeOriginating, DeregistrationRequestUeTerminated}
 

@@ -1,9 +1,7 @@
 -- Further elements of identifiers that stand there already change no message.
-use Rattle.std.proofs.Common.{◌≡◌, ◌∙◌, ℕ, Bool, true, List, [], ◌∷◌, ◌++◌, is_some, Ok, append-nil, append_assoc, arith, refl, ap, sym}
-use Rattle.std.specs.Prelude.{◌&&◌}
+use Rattle.std.proofs.Common.{◌≡◌, ◌∙◌, ℕ, true, List, [], ◌∷◌, ◌++◌, is_some, append-nil, append_assoc, arith, refl, ap, sym}
 use Rattle.std.proofs.lemmas.Bool.Decides.{nat_tests}
 use Rattle.nas_base.proofs.FirstsLaws.{firsts_are_kept}
-use Rattle.nas_base.specs.Kinds.{mm_type}
 use Rattle.nas_base.specs.Walking.{Element, RowParts, elements_in, firsts, value_of}
 use Rattle.nas_base.specs.WalkLaws.{AreRows}
 use Rattle.nas_base.specs.declared.mm_kind.MmKind.{MmKind}
@@ -22,7 +20,6 @@ use Rattle.mm_messages.specs.SecurityMode.{security_mode_command_layout, securit
 use Rattle.mm_messages.specs.Service.{service_accept_layout, service_reject_layout, service_request_layout}
 use Rattle.mm_messages.specs.StatusMessage.{five_gmm_status_layout}
 use Rattle.mm_messages.specs.Transport.{dl_nas_transport_layout, ul_nas_transport_layout}
-use Rattle.mm_messages.specs.declared.message.Mm.{Mm}
 
 -- the elements of a layout have rows
 abbrev HasRows : {A : Type 0} → Layout A → Type 0

@@ -1,7 +1,6 @@
 -- What stands in the halves of an octet is read back.
-use Rattle.std.proofs.Common.{◌≡◌, ◌<◌, ◌+◌, ◌*◌, ◌/◌, ◌%◌, ◌==◌, ℕ, Bool, true, false, arith, refl, ap, ◌∙◌}
-use Rattle.std.specs.Prelude.{if◌then◌else◌, nat_le}
-use Rattle.std.proofs.lemmas.Bool.Decides.{nat_tests}
+use Rattle.std.proofs.Common.{◌≡◌, ◌<◌, ◌+◌, ℕ, Bool, true, false, arith, refl, ap, ◌∙◌}
+use Rattle.std.specs.Prelude.{nat_le}
 use Rattle.nas_elements.specs.Packed.{two_halves}
 use Rattle.mm_messages.specs.Parts.{deregistration_code, follow_on, high_half, is_switch_off, ksi_of, low_half, registration_type_code, registration_type_of}
 use Rattle.mm_messages.specs.declared.registration.RegistrationType.{RegistrationType}

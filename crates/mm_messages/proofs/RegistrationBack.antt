@@ -1,7 +1,6 @@
 -- The request and the accept of a registration are read back.
-use Rattle.std.proofs.Common.{◌≡◌, ◌∙◌, ◌<◌, ◌≤◌, ◌+◌, ℕ, Bool, true, List, [], ◌∷◌, ◌++◌, length, Option, Some, option_map, Ok, arith, refl, sym, ap}
-use Rattle.std.specs.Prelude.{is_some}
-use Rattle.nas_base.specs.Walking.{RowParts, elements_in, firsts, form_of, value_of}
+use Rattle.std.proofs.Common.{◌≡◌, ◌∙◌, ◌<◌, ◌≤◌, ◌+◌, ℕ, Bool, List, [], ◌∷◌, length, Option, Some, option_map, Ok, arith, refl}
+use Rattle.nas_base.specs.Walking.{RowParts}
 use Rattle.nas_base.specs.declared.mm_kind.MmKind.TheVariants as kinds
 use Rattle.nas_elements.specs.Capability.{capability_in}
 use Rattle.nas_elements.specs.Guti.{guti_in, guti_octets}
@@ -21,7 +20,7 @@ use Rattle.mm_messages.proofs.Back.{back}
 use Rattle.mm_messages.proofs.HalvesBack.{type_back, type_ksi_back}
 use Rattle.mm_messages.proofs.ValuesBack.{guti_long}
 use Rattle.mm_messages.specs.Messages.{mm_in, spelling}
-use Rattle.mm_messages.specs.Parts.{follow_on, high_half, ksi_of, low_half, registration_type_code, registration_type_of}
+use Rattle.mm_messages.specs.Parts.{follow_on, registration_type_code}
 use Rattle.mm_messages.specs.Registration.{registration_accept, registration_accept_layout, registration_request, registration_request_layout}
 use Rattle.mm_messages.specs.Rows.{fixed_row, tlv_row, tlve_row}
 use Rattle.mm_messages.specs.declared.message.Mm.TheVariants.{RegistrationAccept, RegistrationRequest}

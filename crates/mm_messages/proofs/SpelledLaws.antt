@@ -1,11 +1,10 @@
 -- Octets spell a message exactly where they are read as it.
-use Rattle.std.proofs.Common.{◌≡◌, ℕ, ◌%◌, Bool, true, false, not, nat_lt, ◌==◌, ◌&&◌, List, [], ◌∷◌, length, slice_index, drop, Option, Some, None, Result, Ok, Err, if◌then◌else◌, arith, refl, sym, ap, ◌∙◌}
+use Rattle.std.proofs.Common.{◌≡◌, ℕ, ◌%◌, Bool, true, false, not, nat_lt, ◌==◌, ◌&&◌, List, [], ◌∷◌, length, slice_index, drop, Option, Some, None, Result, Ok, Err, if◌then◌else◌, arith, refl, ap, ◌∙◌}
 use Rattle.std.proofs.lemmas.Bool.Decides.{nat_tests}
 use Rattle.std.proofs.lemmas.List.Elements.{All-drop}
 use Rattle.std.specs.Prelude.{◌<◌, ◌≤◌}
 use Rattle.nas_base.proofs.KindLaws.{kinds_have_types}
 use Rattle.nas_base.specs.Kinds.{mm_kind, mm_type}
-use Rattle.nas_base.specs.Reading.{Place}
 use Rattle.nas_base.specs.declared.mm_kind.MmKind.{MmKind}
 use Rattle.nas_layout.proofs.SpellsLaws.{laid_spelled, spelled_laid}
 use Rattle.nas_layout.specs.Laws.{AreOctets}

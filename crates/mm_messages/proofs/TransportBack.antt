@@ -1,7 +1,7 @@
 -- The messages that carry others are read back.
-use Rattle.std.proofs.Common.{◌≡◌, ◌∙◌, ◌<◌, ◌≤◌, ℕ, Bool, true, List, [], ◌∷◌, length, Option, Some, option_map, Ok, arith, refl, sym, ap}
-use Rattle.std.specs.Prelude.{IfSome, is_some}
-use Rattle.nas_base.specs.Walking.{RowParts, elements_in, firsts, form_of, value_of}
+use Rattle.std.proofs.Common.{◌≡◌, ◌∙◌, ◌<◌, ◌≤◌, ℕ, List, [], ◌∷◌, length, Option, option_map, Ok, arith, refl}
+use Rattle.std.specs.Prelude.{IfSome}
+use Rattle.nas_base.specs.Walking.{RowParts}
 use Rattle.nas_base.specs.declared.mm_kind.MmKind.TheVariants as kinds
 use Rattle.nas_elements.specs.Dnn.{dnn_in}
 use Rattle.nas_elements.specs.Slice.{slice_in, slice_octets}
