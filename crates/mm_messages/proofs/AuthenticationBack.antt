@@ -1,14 +1,12 @@
 -- The messages of primary authentication are read back.
-use Rattle.std.proofs.Common.{◌≡◌, ◌∙◌, ◌<◌, ◌≤◌, ℕ, List, [], ◌∷◌, length, Option, Some, Ok, arith, refl, sym, ap}
+use Rattle.std.proofs.Common.{◌≡◌, ◌∙◌, ◌<◌, ◌≤◌, ℕ, List, [], ◌∷◌, length, Option, Some, Ok, refl, sym, ap}
 use Rattle.std.specs.Prelude.{IfSome}
-use Rattle.std.proofs.lemmas.Bool.Decides.{nat_tests}
 use Rattle.nas_base.specs.Walking.{RowParts}
 use Rattle.nas_base.specs.declared.mm_kind.MmKind.TheVariants as kinds
 use Rattle.nas_layout.specs.Abba.{abba_in}
-use Rattle.nas_layout.specs.Layout.{read_as}
+use Rattle.nas_layout.proofs.PieceLaws.{written_known}
+use Rattle.nas_layout.specs.Pieces.{FitPieces, Piece, fixed, pieces_octets, short}
 use Rattle.mm_messages.proofs.Back.{back}
-use Rattle.mm_messages.proofs.ElementsBack.{Piece, found_back, written}
-use Rattle.mm_messages.proofs.ElementsBack.Piece.{fixed, short}
 use Rattle.mm_messages.proofs.HalvesBack.{ksi_back}
 use Rattle.mm_messages.proofs.ValuesBack.{exactly_back}
 use Rattle.mm_messages.specs.Authentication.{authentication_failure, authentication_failure_layout, authentication_request, authentication_request_layout, authentication_response, authentication_response_layout}
@@ -17,24 +15,22 @@ use Rattle.mm_messages.specs.Parts.{exactly}
 use Rattle.mm_messages.specs.Rows.{fixed_row, tlv_row}
 use Rattle.mm_messages.specs.declared.message.Mm.TheVariants.{AuthenticationFailure, AuthenticationRequest, AuthenticationResponse}
 
-abba_back : (abba : List ℕ) → 2 ≤ length abba → length abba ≤ 255 → abba_in abba ≡ Some abba
-abba_back abba least most = grind (arith, nat_tests)
-
 abbrev request_rows : List RowParts
 request_rows = fixed_row 0x21 17 ∷ tlv_row 0x20 ∷ []
 
 abbrev request_pieces : Option (List ℕ) → Option (List ℕ) → List Piece
 request_pieces rand autn = fixed 0x21 16 rand ∷ short 0x20 autn ∷ []
 
-pub authentication_request_back : (ksi : ℕ) (abba : List ℕ) (rand autn : Option (List ℕ)) → ksi < 8 → (2 ≤ length abba) × (length abba ≤ 255)
+pub authentication_request_back : (ksi : ℕ) (abba : List ℕ) (rand autn : Option (List ℕ)) → ksi < 8 → length abba ≤ 255 → abba_in abba ≡ Some abba
     → IfSome rand (λ os. length os ≡ 16) → IfSome autn (λ os. length os ≡ 16)
     → mm_in (spelling (AuthenticationRequest ksi abba rand autn)) ≡ Ok (AuthenticationRequest ksi abba rand autn)
 unfolding authentication_request authentication_request_layout
-authentication_request_back ksi abba rand autn range size challenge token =
+authentication_request_back ksi abba rand autn range size bound challenge token =
     let k = ksi_back ksi range in
-    let found = found_back request_rows (request_pieces rand autn) refl ((refl, challenge), (refl, tt)) refl in
-    let r = ap (read_as (exactly 16)) (found 0x21 refl) ∙ exactly_back 16 rand challenge in
-    let a = ap (read_as (exactly 16)) (found 0x20 refl) ∙ exactly_back 16 autn token in
+    let pieces = request_pieces rand autn in
+    let fit : FitPieces pieces = (challenge, (tt, tt)) in
+    let r = written_known request_rows pieces 0x21 (exactly 16) refl fit refl ∙ exactly_back 16 rand challenge in
+    let a = written_known request_rows pieces 0x20 (exactly 16) refl fit refl ∙ exactly_back 16 autn token in
     back kinds.AuthenticationRequest _ (AuthenticationRequest ksi abba rand autn) (record {
       piece = ksi ∷ [];
       rest = _;
@@ -44,11 +40,11 @@ authentication_request_back ksi abba rand autn range size challenge token =
       means = refl;
       behind = record {
         piece = abba;
-        rest = written (request_pieces rand autn);
+        rest = pieces_octets (request_pieces rand autn);
         value = abba;
         whole = refl;
-        fits = size.1;
-        means = abba_back abba size.0 size.1;
+        fits = size;
+        means = bound;
         behind = cc;
       };
     })
@@ -60,8 +56,7 @@ pub authentication_response_back : (res : Option (List ℕ)) → IfSome res (λ 
     mm_in (spelling (AuthenticationResponse res)) ≡ Ok (AuthenticationResponse res)
 unfolding authentication_response authentication_response_layout
 authentication_response_back res size =
-    let found = found_back response_rows (short 0x2d res ∷ []) refl (refl, tt) refl in
-    let r = ap (read_as (exactly 16)) (found 0x2d refl) ∙ exactly_back 16 res size in
+    let r = written_known response_rows (short 0x2d res ∷ []) 0x2d (exactly 16) refl (tt, tt) refl ∙ exactly_back 16 res size in
     back kinds.AuthenticationResponse _ (AuthenticationResponse res) (ap (λ (x : Option (List ℕ)). AuthenticationResponse x) (sym r))
 
 abbrev failure_rows : List RowParts
@@ -71,11 +66,10 @@ pub authentication_failure_back : (cause : ℕ) (auts : Option (List ℕ)) → I
     mm_in (spelling (AuthenticationFailure cause auts)) ≡ Ok (AuthenticationFailure cause auts)
 unfolding authentication_failure authentication_failure_layout
 authentication_failure_back cause auts size =
-    let found = found_back failure_rows (short 0x30 auts ∷ []) refl (refl, tt) refl in
-    let a = ap (read_as (exactly 14)) (found 0x30 refl) ∙ exactly_back 14 auts size in
+    let a = written_known failure_rows (short 0x30 auts ∷ []) 0x30 (exactly 14) refl (tt, tt) refl ∙ exactly_back 14 auts size in
     back kinds.AuthenticationFailure _ (AuthenticationFailure cause auts) (record {
       piece = cause ∷ [];
-      rest = written (short 0x30 auts ∷ []);
+      rest = pieces_octets (short 0x30 auts ∷ []);
       value = cause;
       whole = refl;
       fits = refl;

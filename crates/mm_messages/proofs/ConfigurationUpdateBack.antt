@@ -1,16 +1,16 @@
 -- The command of a configuration update is read back.
-use Rattle.std.proofs.Common.{◌≡◌, ◌∙◌, ◌<◌, ℕ, List, [], ◌∷◌, Option, option_map, Ok, refl, ap}
+use Rattle.std.proofs.Common.{◌≡◌, ◌∙◌, ◌<◌, ℕ, List, [], ◌∷◌, Option, option_map, Ok, refl}
 use Rattle.std.specs.Prelude.{IfSome}
 use Rattle.nas_base.specs.Walking.{RowParts}
 use Rattle.nas_base.specs.declared.mm_kind.MmKind.TheVariants as kinds
 use Rattle.nas_elements.specs.Guti.{guti_in, guti_octets}
 use Rattle.nas_elements.specs.declared.guti.Guti.{Guti}
 use Rattle.nas_layout.proofs.ElementLaws.{half_mapped}
+use Rattle.nas_layout.proofs.PieceLaws.{written_known}
 use Rattle.nas_layout.specs.Half.{half_in}
 use Rattle.nas_layout.specs.Layout.{read_as}
+use Rattle.nas_layout.specs.Pieces.{FitPieces, Piece, half, long, pieces_octets}
 use Rattle.mm_messages.proofs.Back.{back}
-use Rattle.mm_messages.proofs.ElementsBack.{Piece, found_back, written}
-use Rattle.mm_messages.proofs.ElementsBack.Piece.{half, long}
 use Rattle.mm_messages.proofs.ValuesBack.{guti_long}
 use Rattle.mm_messages.specs.ConfigurationUpdate.{configuration_update_command, configuration_update_command_layout}
 use Rattle.mm_messages.specs.Messages.{mm_in, spelling}
@@ -28,7 +28,7 @@ pub configuration_update_command_back : (indication : Option ℕ) (guti : Option
     → mm_in (spelling (ConfigurationUpdateCommand indication guti)) ≡ Ok (ConfigurationUpdateCommand indication guti)
 unfolding configuration_update_command configuration_update_command_layout
 configuration_update_command_back indication guti small named =
-    let found = found_back rows (pieces indication guti) refl ((refl, refl, refl, small), ((refl, guti_long guti), tt)) refl in
-    let i = ap (read_as half_in) (found 0xd0 refl) ∙ half_mapped 0xd0 indication refl small in
-    let g = ap (read_as guti_in) (found 0x77 refl) ∙ named in
-    back kinds.ConfigurationUpdateCommand (written (pieces indication guti)) (ConfigurationUpdateCommand indication guti) cc
+    let fit : FitPieces (pieces indication guti) = (small, (guti_long guti, tt)) in
+    let i = written_known rows (pieces indication guti) 0xd0 half_in refl fit refl ∙ half_mapped 0xd0 indication refl small in
+    let g = written_known rows (pieces indication guti) 0x77 guti_in refl fit refl ∙ named in
+    back kinds.ConfigurationUpdateCommand (pieces_octets (pieces indication guti)) (ConfigurationUpdateCommand indication guti) cc

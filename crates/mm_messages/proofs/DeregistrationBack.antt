@@ -1,16 +1,16 @@
 -- The requests of a de-registration are read back.
-use Rattle.std.proofs.Common.{◌≡◌, ◌∙◌, ◌<◌, ◌≤◌, ℕ, Bool, List, [], ◌∷◌, length, Option, Some, option_map, Ok, append-nil, arith, refl, sym, ap}
+use Rattle.std.proofs.Common.{◌≡◌, ◌∙◌, ◌<◌, ◌≤◌, ℕ, Bool, List, [], ◌∷◌, length, Option, Some, option_map, Ok, append-nil, arith, refl, sym}
 use Rattle.nas_base.specs.Walking.{RowParts, elements_in, firsts}
 use Rattle.nas_base.specs.Writing.{lve}
 use Rattle.nas_base.specs.declared.mm_kind.MmKind.TheVariants as kinds
 use Rattle.nas_elements.specs.Identity.{identity_in, identity_octets}
 use Rattle.nas_elements.specs.Packed.{two_halves}
 use Rattle.nas_elements.specs.declared.identity.Identity.{Identity}
-use Rattle.nas_layout.specs.Layout.{known, read_as}
+use Rattle.nas_layout.proofs.PieceLaws.{written_known}
+use Rattle.nas_layout.specs.Layout.{known}
+use Rattle.nas_layout.specs.Pieces.{fixed}
 use Rattle.nas_layout.specs.Writing.{optional_tv}
 use Rattle.mm_messages.proofs.Back.{back}
-use Rattle.mm_messages.proofs.ElementsBack.{found_back}
-use Rattle.mm_messages.proofs.ElementsBack.Piece.{fixed}
 use Rattle.mm_messages.proofs.HalvesBack.{low_switch_off_back, switch_off_back, switch_off_ksi_back}
 use Rattle.mm_messages.proofs.ValuesBack.{octet_back, one_octet_long}
 use Rattle.mm_messages.specs.Deregistration.{deregistration_request_ue_originating, deregistration_request_ue_originating_layout, deregistration_request_ue_terminated, deregistration_request_ue_terminated_layout}
@@ -49,8 +49,7 @@ rows = fixed_row 0x58 2 ∷ []
 
 cause_back : (cause : Option ℕ) → known 0x58 octet_in (firsts rows (elements_in rows (optional_tv 0x58 (option_map one_octet cause)))) ≡ cause
 cause_back cause =
-    ap (read_as octet_in) (found_back rows (fixed 0x58 1 (option_map one_octet cause) ∷ []) refl ((refl, one_octet_long cause), tt) refl 0x58 refl)
-    ∙ octet_back cause
+    written_known rows (fixed 0x58 1 (option_map one_octet cause) ∷ []) 0x58 octet_in refl (one_octet_long cause, tt) refl ∙ octet_back cause
 
 pub request_of_network_back : (switch_off : Bool) (cause : Option ℕ) →
     mm_in (spelling (DeregistrationRequestUeTerminated switch_off cause)) ≡ Ok (DeregistrationRequestUeTerminated switch_off cause)

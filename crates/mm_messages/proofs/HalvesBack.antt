@@ -54,9 +54,9 @@ deregistration_small false = omega arith
 pub low_switch_off_back : (switch_off : Bool) (ksi : ℕ) → is_switch_off (two_halves (deregistration_code switch_off) ksi) ≡ switch_off
 low_switch_off_back switch_off ksi =
     ap (λ (half : ℕ). nat_le 8 half) (low_back (deregistration_code switch_off) ksi (deregistration_small switch_off)) ∙ switch_off_there switch_off where
-  switch_off_there : (b : Bool) → nat_le 8 (deregistration_code b) ≡ b
-  switch_off_there true = refl
-  switch_off_there false = refl
+      switch_off_there : (b : Bool) → nat_le 8 (deregistration_code b) ≡ b
+      switch_off_there true = refl
+      switch_off_there false = refl
 
 pub switch_off_ksi_back : (switch_off : Bool) (ksi : ℕ) → ksi < 8 → ksi_of (high_half (two_halves (deregistration_code switch_off) ksi)) ≡ ksi
 switch_off_ksi_back switch_off ksi range = high_ksi_back (deregistration_code switch_off) ksi (deregistration_small switch_off) range

@@ -2,13 +2,15 @@ pub mod AuthenticationBack
 pub mod Back
 pub mod ConfigurationUpdateBack
 pub mod DeregistrationBack
-pub mod ElementsBack
+pub mod FirstElementsLaws
 pub mod HalvesBack
 pub mod IdentificationBack
 pub mod PlainBack
 pub mod RegistrationBack
 pub mod SecurityModeBack
 pub mod ServiceBack
+pub mod SpelledLaws
 pub mod SpellingLaws
 pub mod TransportBack
 pub mod ValuesBack
+pub mod WalkedWhole

@@ -1,7 +1,6 @@
 -- The request and the accept of a registration are read back.
-use Rattle.std.proofs.Common.{◌≡◌, ◌∙◌, ◌<◌, ◌≤◌, ◌+◌, ℕ, Bool, true, List, [], ◌∷◌, length, Option, Some, option_map, Ok, arith, refl, ap}
-use Rattle.std.specs.Prelude.{is_some}
-use Rattle.nas_base.specs.Walking.{RowParts, elements_in, firsts, form_of, value_of}
+use Rattle.std.proofs.Common.{◌≡◌, ◌∙◌, ◌<◌, ◌≤◌, ◌+◌, ℕ, Bool, List, [], ◌∷◌, length, Option, Some, option_map, Ok, arith, refl}
+use Rattle.nas_base.specs.Walking.{RowParts}
 use Rattle.nas_base.specs.declared.mm_kind.MmKind.TheVariants as kinds
 use Rattle.nas_elements.specs.Capability.{capability_in}
 use Rattle.nas_elements.specs.Guti.{guti_in, guti_octets}
@@ -14,10 +13,10 @@ use Rattle.nas_elements.specs.Timer3.{GprsTimer, timer3_in, timer3_octets}
 use Rattle.nas_elements.specs.declared.guti.Guti.{Guti}
 use Rattle.nas_elements.specs.declared.identity.Identity.{Identity}
 use Rattle.nas_elements.specs.declared.slice.Slice.{Slice}
+use Rattle.nas_layout.proofs.PieceLaws.{written_known}
 use Rattle.nas_layout.specs.Layout.{read_as}
+use Rattle.nas_layout.specs.Pieces.{FitPieces, Piece, long, pieces_octets, short}
 use Rattle.mm_messages.proofs.Back.{back}
-use Rattle.mm_messages.proofs.ElementsBack.{Piece, found_back, value_among, written}
-use Rattle.mm_messages.proofs.ElementsBack.Piece.{long, short}
 use Rattle.mm_messages.proofs.HalvesBack.{type_back, type_ksi_back}
 use Rattle.mm_messages.proofs.ValuesBack.{guti_long}
 use Rattle.mm_messages.specs.Messages.{mm_in, spelling}
@@ -33,10 +32,6 @@ request_rows = tlv_row 0x2e ∷ tlv_row 0x50 ∷ fixed_row 0x52 7 ∷ []
 abbrev request_pieces : Option (List ℕ) → Option (List Bool) → List Piece
 request_pieces capability status = short 0x2e capability ∷ short 0x50 (option_map status_octets status) ∷ []
 
-request_found : (capability : Option (List ℕ)) (status : Option (List Bool)) (iei : ℕ) → is_some (form_of request_rows iei) ≡ true →
-    value_of iei (firsts request_rows (elements_in request_rows (written (request_pieces capability status)))) ≡ value_among iei (request_pieces capability status)
-request_found capability status = found_back request_rows (request_pieces capability status) refl (refl, (refl, tt)) refl
-
 pub registration_request_back : (registration : RegistrationType) (ksi : ℕ) (identity : Identity) (capability : Option (List ℕ)) (status : Option (List Bool))
     → ksi < 8 → length (identity_octets identity) ≤ 4100 → identity_in (identity_octets identity) ≡ Some identity
     → read_as capability_in capability ≡ capability → read_as status_in (option_map status_octets status) ≡ status
@@ -45,8 +40,9 @@ unfolding registration_request registration_request_layout
 registration_request_back registration ksi identity capability status range size named able read =
     let r = type_back registration ksi in
     let k = type_ksi_back registration ksi range in
-    let c = ap (read_as capability_in) (request_found capability status 0x2e refl) ∙ able in
-    let s = ap (read_as status_in) (request_found capability status 0x50 refl) ∙ read in
+    let pieces = request_pieces capability status in
+    let c = written_known request_rows pieces 0x2e capability_in refl (tt, (tt, tt)) refl ∙ able in
+    let s = written_known request_rows pieces 0x50 status_in refl (tt, (tt, tt)) refl ∙ read in
     back kinds.RegistrationRequest _ (RegistrationRequest registration ksi identity capability status) (record {
       piece = two_halves (registration_type_code registration + follow_on) ksi ∷ [];
       rest = _;
@@ -56,7 +52,7 @@ registration_request_back registration ksi identity capability status range size
       means = refl;
       behind = record {
         piece = identity_octets identity;
-        rest = written (request_pieces capability status);
+        rest = pieces_octets (request_pieces capability status);
         value = identity;
         whole = refl;
         fits = omega arith;
@@ -73,27 +69,22 @@ accept_pieces guti tai_list nssai status timer =
     long 0x77 (option_map guti_octets guti) ∷ short 0x54 tai_list ∷ short 0x15 (option_map nssai_octets nssai) ∷ short 0x50 (option_map status_octets status)
     ∷ short 0x5e (option_map timer3_octets timer) ∷ []
 
-accept_found : (guti : Option Guti) (tai_list : Option (List ℕ)) (nssai : Option (List Slice)) (status : Option (List Bool)) (timer : Option GprsTimer) (iei : ℕ)
-    → is_some (form_of accept_rows iei) ≡ true → value_of iei (firsts accept_rows (elements_in accept_rows (written (accept_pieces guti tai_list nssai status timer))))
-    ≡ value_among iei (accept_pieces guti tai_list nssai status timer)
-accept_found guti tai_list nssai status timer =
-    found_back accept_rows (accept_pieces guti tai_list nssai status timer) refl ((refl, guti_long guti), (refl, (refl, (refl, (refl, tt))))) refl
-
 pub registration_accept_back : (result : ℕ) (guti : Option Guti) (tai_list : Option (List ℕ)) (nssai : Option (List Slice)) (status : Option (List Bool)) (timer : Option GprsTimer)
     → read_as guti_in (option_map guti_octets guti) ≡ guti → read_as tai_list_in tai_list ≡ tai_list → read_as nssai_in (option_map nssai_octets nssai) ≡ nssai
     → read_as status_in (option_map status_octets status) ≡ status → read_as timer3_in (option_map timer3_octets timer) ≡ timer
     → mm_in (spelling (RegistrationAccept result guti tai_list nssai status timer)) ≡ Ok (RegistrationAccept result guti tai_list nssai status timer)
 unfolding registration_accept registration_accept_layout
 registration_accept_back result guti tai_list nssai status timer named areas slices read timed =
-    let found = accept_found guti tai_list nssai status timer in
-    let g = ap (read_as guti_in) (found 0x77 refl) ∙ named in
-    let l = ap (read_as tai_list_in) (found 0x54 refl) ∙ areas in
-    let n = ap (read_as nssai_in) (found 0x15 refl) ∙ slices in
-    let s = ap (read_as status_in) (found 0x50 refl) ∙ read in
-    let t = ap (read_as timer3_in) (found 0x5e refl) ∙ timed in
+    let pieces = accept_pieces guti tai_list nssai status timer in
+    let fit : FitPieces pieces = (guti_long guti, (tt, (tt, (tt, (tt, tt))))) in
+    let g = written_known accept_rows pieces 0x77 guti_in refl fit refl ∙ named in
+    let l = written_known accept_rows pieces 0x54 tai_list_in refl fit refl ∙ areas in
+    let n = written_known accept_rows pieces 0x15 nssai_in refl fit refl ∙ slices in
+    let s = written_known accept_rows pieces 0x50 status_in refl fit refl ∙ read in
+    let t = written_known accept_rows pieces 0x5e timer3_in refl fit refl ∙ timed in
     back kinds.RegistrationAccept _ (RegistrationAccept result guti tai_list nssai status timer) (record {
       piece = result ∷ [];
-      rest = written (accept_pieces guti tai_list nssai status timer);
+      rest = pieces_octets (accept_pieces guti tai_list nssai status timer);
       value = result;
       whole = refl;
       fits = omega arith;

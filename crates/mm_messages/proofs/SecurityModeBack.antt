@@ -7,10 +7,10 @@ use Rattle.nas_elements.specs.Algs.{Algorithms, algs_in, algs_octets}
 use Rattle.nas_elements.specs.Asi.{asi_in, asi_octets}
 use Rattle.nas_elements.specs.Capability.{capability_in}
 use Rattle.nas_elements.specs.declared.asi.Asi.{Asi}
+use Rattle.nas_layout.proofs.PieceLaws.{written_known}
 use Rattle.nas_layout.specs.Layout.{read_as}
+use Rattle.nas_layout.specs.Pieces.{long, pieces_octets, short}
 use Rattle.mm_messages.proofs.Back.{back}
-use Rattle.mm_messages.proofs.ElementsBack.{found_back, written}
-use Rattle.mm_messages.proofs.ElementsBack.Piece.{long, short}
 use Rattle.mm_messages.proofs.HalvesBack.{ksi_back}
 use Rattle.mm_messages.proofs.ValuesBack.{message_back, message_long}
 use Rattle.mm_messages.specs.Messages.{mm_in, spelling}
@@ -28,8 +28,7 @@ pub security_mode_command_back : (algs : Algorithms) (ksi : ℕ) (capability : L
 unfolding security_mode_command security_mode_command_layout
 security_mode_command_back algs ksi capability asi chosen range size able wanted =
     let k = ksi_back ksi range in
-    let found = found_back command_rows (short 0x36 (option_map asi_octets asi) ∷ []) refl (refl, tt) refl in
-    let a = ap (read_as asi_in) (found 0x36 refl) ∙ wanted in
+    let a = written_known command_rows (short 0x36 (option_map asi_octets asi) ∷ []) 0x36 asi_in refl (tt, tt) refl ∙ wanted in
     back kinds.SecurityModeCommand _ (SecurityModeCommand algs ksi capability asi) (record {
       piece = algs_octets algs;
       rest = _;
@@ -46,7 +45,7 @@ security_mode_command_back algs ksi capability asi chosen range size able wanted
         means = refl;
         behind = record {
           piece = capability;
-          rest = written (short 0x36 (option_map asi_octets asi) ∷ []);
+          rest = pieces_octets (short 0x36 (option_map asi_octets asi) ∷ []);
           value = capability;
           whole = refl;
           fits = omega arith;
@@ -63,6 +62,5 @@ pub security_mode_complete_back : (message : Option (List ℕ)) → IfSome messa
     mm_in (spelling (SecurityModeComplete message)) ≡ Ok (SecurityModeComplete message)
 unfolding security_mode_complete security_mode_complete_layout
 security_mode_complete_back message size =
-    let found = found_back complete_rows (long 0x71 message ∷ []) refl ((refl, message_long message size), tt) refl in
-    let m = ap (read_as container_in) (found 0x71 refl) ∙ message_back message size in
+    let m = written_known complete_rows (long 0x71 message ∷ []) 0x71 container_in refl (message_long message size, tt) refl ∙ message_back message size in
     back kinds.SecurityModeComplete _ (SecurityModeComplete message) (ap (λ (x : Option (List ℕ)). SecurityModeComplete x) (sym m))

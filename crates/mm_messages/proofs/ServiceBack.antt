@@ -7,10 +7,10 @@ use Rattle.nas_elements.specs.Identity.{identity_in, identity_octets}
 use Rattle.nas_elements.specs.Packed.{two_halves}
 use Rattle.nas_elements.specs.Status.{status_in, status_octets}
 use Rattle.nas_elements.specs.declared.identity.Identity.{Identity}
+use Rattle.nas_layout.proofs.PieceLaws.{written_known}
 use Rattle.nas_layout.specs.Layout.{known, read_as}
+use Rattle.nas_layout.specs.Pieces.{short}
 use Rattle.mm_messages.proofs.Back.{back}
-use Rattle.mm_messages.proofs.ElementsBack.{found_back}
-use Rattle.mm_messages.proofs.ElementsBack.Piece.{short}
 use Rattle.mm_messages.proofs.HalvesBack.{high_back, low_ksi_back}
 use Rattle.mm_messages.specs.Messages.{mm_in, spelling}
 use Rattle.mm_messages.specs.Parts.{high_half, ksi_of, low_half}
@@ -25,7 +25,7 @@ rows = tlv_row 0x50 ∷ []
 status_back : (status : Option (List Bool)) → read_as status_in (option_map status_octets status) ≡ status →
     known 0x50 status_in (firsts rows (elements_in rows (optional_tlv 0x50 (option_map status_octets status)))) ≡ status
 status_back status read =
-    ap (read_as status_in) (found_back rows (short 0x50 (option_map status_octets status) ∷ []) refl (refl, tt) refl 0x50 refl) ∙ read
+    written_known rows (short 0x50 (option_map status_octets status) ∷ []) 0x50 status_in refl (tt, tt) refl ∙ read
 
 pub service_request_back : (ksi service_type : ℕ) (identity : Identity) (status : Option (List Bool)) → ksi < 8
     → length (identity_octets identity) ≤ 4100 → identity_in (identity_octets identity) ≡ Some identity

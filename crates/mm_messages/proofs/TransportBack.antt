@@ -1,17 +1,17 @@
 -- The messages that carry others are read back.
-use Rattle.std.proofs.Common.{◌≡◌, ◌∙◌, ◌<◌, ◌≤◌, ℕ, true, List, [], ◌∷◌, length, Option, option_map, Ok, arith, refl, ap}
-use Rattle.std.specs.Prelude.{IfSome, is_some}
-use Rattle.nas_base.specs.Walking.{RowParts, elements_in, firsts, form_of, value_of}
+use Rattle.std.proofs.Common.{◌≡◌, ◌∙◌, ◌<◌, ◌≤◌, ℕ, List, [], ◌∷◌, length, Option, option_map, Ok, arith, refl}
+use Rattle.std.specs.Prelude.{IfSome}
+use Rattle.nas_base.specs.Walking.{RowParts}
 use Rattle.nas_base.specs.declared.mm_kind.MmKind.TheVariants as kinds
 use Rattle.nas_elements.specs.Dnn.{dnn_in}
 use Rattle.nas_elements.specs.Slice.{slice_in, slice_octets}
 use Rattle.nas_elements.specs.declared.slice.Slice.{Slice}
 use Rattle.nas_layout.proofs.ElementLaws.{half_mapped}
+use Rattle.nas_layout.proofs.PieceLaws.{written_known}
 use Rattle.nas_layout.specs.Half.{half_in}
 use Rattle.nas_layout.specs.Layout.{read_as}
+use Rattle.nas_layout.specs.Pieces.{FitPieces, Piece, fixed, half, pieces_octets, short}
 use Rattle.mm_messages.proofs.Back.{back}
-use Rattle.mm_messages.proofs.ElementsBack.{Piece, found_back, value_among, written}
-use Rattle.mm_messages.proofs.ElementsBack.Piece.{fixed, half, short}
 use Rattle.mm_messages.proofs.HalvesBack.{half_back}
 use Rattle.mm_messages.proofs.ValuesBack.{container_back, octet_back, one_octet_long}
 use Rattle.mm_messages.specs.Messages.{mm_in, spelling}
@@ -27,23 +27,18 @@ abbrev ul_pieces : Option ℕ → Option ℕ → Option Slice → Option (List �
 ul_pieces psi request_type slice dnn =
     fixed 0x12 1 (option_map one_octet psi) ∷ half 0x80 request_type ∷ short 0x22 (option_map slice_octets slice) ∷ short 0x25 dnn ∷ []
 
-ul_found : (psi request_type : Option ℕ) (slice : Option Slice) (dnn : Option (List ℕ)) → IfSome request_type (λ half. half < 16) → (iei : ℕ)
-    → is_some (form_of ul_rows iei) ≡ true → value_of iei (firsts ul_rows (elements_in ul_rows (written (ul_pieces psi request_type slice dnn))))
-    ≡ value_among iei (ul_pieces psi request_type slice dnn)
-ul_found psi request_type slice dnn small =
-    found_back ul_rows (ul_pieces psi request_type slice dnn) refl ((refl, one_octet_long psi), ((refl, refl, refl, small), (refl, (refl, tt)))) refl
-
 pub ul_nas_transport_back : (container_type : ℕ) (container : List ℕ) (psi request_type : Option ℕ) (slice : Option Slice) (dnn : Option (List ℕ)) → container_type < 16
     → length container ≤ 4100 → IfSome request_type (λ half. half < 16) → read_as slice_in (option_map slice_octets slice) ≡ slice → read_as dnn_in dnn ≡ dnn
     → mm_in (spelling (UlNasTransport container_type container psi request_type slice dnn)) ≡ Ok (UlNasTransport container_type container psi request_type slice dnn)
 unfolding ul_nas_transport ul_nas_transport_layout
 ul_nas_transport_back container_type container psi request_type slice dnn range size small sliced named =
-    let found = ul_found psi request_type slice dnn small in
+    let pieces = ul_pieces psi request_type slice dnn in
+    let fit : FitPieces pieces = (one_octet_long psi, (small, (tt, (tt, tt)))) in
     let c : low_half container_type ≡ container_type = half_back container_type range in
-    let p = ap (read_as octet_in) (found 0x12 refl) ∙ octet_back psi in
-    let r = ap (read_as half_in) (found 0x80 refl) ∙ half_mapped 0x80 request_type refl small in
-    let s = ap (read_as slice_in) (found 0x22 refl) ∙ sliced in
-    let d = ap (read_as dnn_in) (found 0x25 refl) ∙ named in
+    let p = written_known ul_rows pieces 0x12 octet_in refl fit refl ∙ octet_back psi in
+    let r = written_known ul_rows pieces 0x80 half_in refl fit refl ∙ half_mapped 0x80 request_type refl small in
+    let s = written_known ul_rows pieces 0x22 slice_in refl fit refl ∙ sliced in
+    let d = written_known ul_rows pieces 0x25 dnn_in refl fit refl ∙ named in
     back kinds.UlNasTransport _ (UlNasTransport container_type container psi request_type slice dnn) (record {
       piece = container_type ∷ [];
       rest = _;
@@ -53,7 +48,7 @@ ul_nas_transport_back container_type container psi request_type slice dnn range 
       means = refl;
       behind = record {
         piece = container;
-        rest = written (ul_pieces psi request_type slice dnn);
+        rest = pieces_octets (ul_pieces psi request_type slice dnn);
         value = container;
         whole = refl;
         fits = omega arith;
@@ -72,10 +67,11 @@ pub dl_nas_transport_back : (container_type : ℕ) (container : List ℕ) (psi c
     → mm_in (spelling (DlNasTransport container_type container psi cause)) ≡ Ok (DlNasTransport container_type container psi cause)
 unfolding dl_nas_transport dl_nas_transport_layout
 dl_nas_transport_back container_type container psi cause range size =
-    let found = found_back dl_rows (dl_pieces psi cause) refl ((refl, one_octet_long psi), ((refl, one_octet_long cause), tt)) refl in
+    let pieces = dl_pieces psi cause in
+    let fit : FitPieces pieces = (one_octet_long psi, (one_octet_long cause, tt)) in
     let t : low_half container_type ≡ container_type = half_back container_type range in
-    let p = ap (read_as octet_in) (found 0x12 refl) ∙ octet_back psi in
-    let c = ap (read_as octet_in) (found 0x58 refl) ∙ octet_back cause in
+    let p = written_known dl_rows pieces 0x12 octet_in refl fit refl ∙ octet_back psi in
+    let c = written_known dl_rows pieces 0x58 octet_in refl fit refl ∙ octet_back cause in
     back kinds.DlNasTransport _ (DlNasTransport container_type container psi cause) (record {
       piece = container_type ∷ [];
       rest = _;
@@ -85,7 +81,7 @@ dl_nas_transport_back container_type container psi cause range size =
       means = refl;
       behind = record {
         piece = container;
-        rest = written (dl_pieces psi cause);
+        rest = pieces_octets (dl_pieces psi cause);
         value = container;
         whole = refl;
         fits = omega arith;

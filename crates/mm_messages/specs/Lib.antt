@@ -2,6 +2,7 @@ pub mod Authentication
 pub mod ConfigurationUpdate
 pub mod Deregistration
 pub mod Elements
+pub mod FirstElements
 pub mod Identification
 pub mod KindOf
 pub mod Messages

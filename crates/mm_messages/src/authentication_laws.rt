@@ -5,20 +5,16 @@ ghost use Rattle.mm_messages.specs.declared.message.Mm.TheVariants.{Authenticati
 
 use crate::element_laws;
 use nas_base::Ksi;
-use nas_layout::Abba;
+use nas_layout::{Abba, abba_is_read_back};
 
 /// AUTHENTICATION REQUEST.
 #[tactic(auto, using(crate::proofs::AuthenticationBack::authentication_request_back))]
-pub fn request(
-    ksi: Ksi,
-    abba: &Abba,
-    rand: &Option<[u8; 16]>,
-    autn: &Option<[u8; 16]>,
-)
+pub fn request(ksi: Ksi, abba: &Abba, rand: &Option<[u8; 16]>, autn: &Option<[u8; 16]>)
     ensures { mm_in (spelling (AuthenticationRequest ksi abba.now rand.now autn.now)) ≡ Ok (AuthenticationRequest ksi abba.now rand.now autn.now) }
 {
     let _ksi = ksi.0;
     let _items = &abba.items;
+    abba_is_read_back(abba);
     element_laws::octets_16(rand);
     element_laws::octets_16(autn);
 }

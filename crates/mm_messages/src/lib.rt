@@ -23,6 +23,7 @@ mod security_mode;
 mod security_mode_laws;
 mod service;
 mod service_laws;
+mod spelling_laws;
 mod status_message;
 mod status_message_laws;
 #[cfg(test)]
@@ -34,3 +35,4 @@ pub use crate::kind::kind_of;
 pub use crate::laws::message_is_read_back;
 pub use crate::message::{Mm, MmRefusal, decode_mm, encode_mm};
 pub use crate::registration::RegistrationType;
+pub use crate::spelling_laws::{first_elements_count, messages_are_spelled};

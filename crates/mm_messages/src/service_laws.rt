@@ -10,12 +10,7 @@ use nas_layout::{Half, Written};
 
 /// SERVICE REQUEST.
 #[tactic(auto, using(crate::proofs::ServiceBack::service_request_back))]
-pub fn request(
-    ksi: Ksi,
-    service_type: Half,
-    identity: &Identity,
-    status: &Option<Status>,
-)
+pub fn request(ksi: Ksi, service_type: Half, identity: &Identity, status: &Option<Status>)
     ensures { mm_in (spelling (ServiceRequest ksi service_type identity.now status.now)) ≡ Ok (ServiceRequest ksi service_type identity.now status.now) }
 {
     let _ksi = ksi.0;

@@ -1,0 +1,18 @@
+//! Octets and the messages that they spell. These functions do nothing: their contracts are the laws.
+ghost use Rattle.std.specs.Prelude.{◌≡◌, ℕ, true, List, ◌++◌, Ok};
+ghost use Rattle.nas_base.specs.Walking.{RowParts, elements_in};
+ghost use Rattle.mm_messages.specs.FirstElements.{EndsInElements, are_repeated, is_walked_whole};
+ghost use Rattle.mm_messages.specs.Messages.{SpellsMessage, mm_in};
+ghost use Rattle.mm_messages.specs.declared.message.Mm.{Mm};
+
+/// Octets spell a message exactly where it is what is read in them; so they spell at most one.
+pub fn messages_are_spelled(octets: &[u8])
+    ensures found { (message : Mm) → SpellsMessage octets.now message → mm_in octets.now ≡ Ok message }
+    ensures only { (message : Mm) → mm_in octets.now ≡ Ok message → SpellsMessage octets.now message }
+{}
+
+/// Of elements with the same identifier the first counts: behind a message whose elements are walked whole, octets change
+/// nothing in which only elements stand that have the identifier of one before.
+pub fn first_elements_count(octets: &[u8])
+    ensures { (shape : List RowParts) (tail more : List ℕ) → EndsInElements octets.now shape tail → is_walked_whole shape tail ≡ true → are_repeated (elements_in shape tail) (elements_in shape more) ≡ true → mm_in (octets.now ++ more) ≡ mm_in octets.now }
+{}
