@@ -387,7 +387,10 @@ fn compare_shown<R: Abort + AllocGlobal>(
     words.push(alloc, hex)?;
     let mut files = MemoryFiles::new(alloc);
     let mut out = MemorySink::new(alloc);
-    assert_eq!(rt; nas_in_memory(alloc, &words, &mut files, &mut out).0, status);
+    assert_eq!(rt;
+        nas_in_memory(alloc, &words, &mut files, &mut out).0,
+        status
+    );
     assert_eq!(rt; out.octets(), text.as_bytes());
     assert!(rt; files.asked().is_empty());
     Ok(())
@@ -402,11 +405,7 @@ fn octets_are_shown_or_told(rt: HostRuntime) -> Result<(), Fail> {
             "5gmm 5d\n  m 22\n  m 00\n  m 02a020\n  36 02\n",
         ),
         ("7E00440B", 0, "5gmm 44\n  m 0b\n"),
-        (
-            "7e0211223344057e0043",
-            0,
-            "protected 2 mac 11223344 sn 5\n",
-        ),
+        ("7e0211223344057e0043", 0, "protected 2 mac 11223344 sn 5\n"),
         ("7e0041", 13, "nas: octets 3\n"),
         ("7e02", 13, "nas: octets 2\n"),
         ("7e007f", 13, "nas: octets 2\n"),

@@ -14,10 +14,7 @@ fn shows_messages_and_frames(rt: HostRuntime) -> Result<(), Fail> {
             "5gmm 42\n  m 0101\n  77 f200f11002004000000001\n  54 0000f110000001\n  15 0101\n  50 0000\n  5e 06\n",
         ),
         // Both parts of an octet are one; bits that are passed over print as they are written.
-        (
-            "7e004170000109",
-            "5gmm 41\n  m 79\n  m 000109\n",
-        ),
+        ("7e004170000109", "5gmm 41\n  m 79\n  m 000109\n"),
         ("7e0054df46aa", "5gmm 54\n  d 0f\n"),
         (
             "7e0067f100022e01120581220401010203250908696e7465726e6574",
@@ -26,10 +23,7 @@ fn shows_messages_and_frames(rt: HostRuntime) -> Result<(), Fail> {
         // An element without octets, and a message without anything.
         ("7e005e710000", "5gmm 5e\n  71 \n"),
         ("7e0058", "5gmm 58\n"),
-        (
-            "7e0401020304ff7e",
-            "protected 4 mac 01020304 sn 255\n",
-        ),
+        ("7e0401020304ff7e", "protected 4 mac 01020304 sn 255\n"),
     ];
     for (given, text) in table {
         let octets = hex::decode(rt.alloc(), given).ok().ok_or("hex")?;
