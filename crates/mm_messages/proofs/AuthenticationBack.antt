@@ -52,12 +52,12 @@ authentication_request_back ksi abba rand autn range size bound challenge token 
 abbrev response_rows : List RowParts
 response_rows = tlv_row 0x2d ∷ []
 
-pub authentication_response_back : (res : Option (List ℕ)) → IfSome res (λ os. length os ≡ 16) →
-    mm_in (spelling (AuthenticationResponse res)) ≡ Ok (AuthenticationResponse res)
+pub authentication_response_back : (res_star : Option (List ℕ)) → IfSome res_star (λ os. length os ≡ 16) →
+    mm_in (spelling (AuthenticationResponse res_star)) ≡ Ok (AuthenticationResponse res_star)
 unfolding authentication_response authentication_response_layout
-authentication_response_back res size =
-    let r = written_known response_rows (short 0x2d res ∷ []) 0x2d (exactly 16) refl (tt, tt) refl ∙ exactly_back 16 res size in
-    back kinds.AuthenticationResponse _ (AuthenticationResponse res) (ap (λ (x : Option (List ℕ)). AuthenticationResponse x) (sym r))
+authentication_response_back res_star size =
+    let r = written_known response_rows (short 0x2d res_star ∷ []) 0x2d (exactly 16) refl (tt, tt) refl ∙ exactly_back 16 res_star size in
+    back kinds.AuthenticationResponse _ (AuthenticationResponse res_star) (ap (λ (x : Option (List ℕ)). AuthenticationResponse x) (sym r))
 
 abbrev failure_rows : List RowParts
 failure_rows = tlv_row 0x30 ∷ []

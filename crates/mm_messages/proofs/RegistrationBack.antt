@@ -65,26 +65,26 @@ abbrev accept_rows : List RowParts
 accept_rows = tlve_row 0x77 ∷ tlv_row 0x54 ∷ tlv_row 0x15 ∷ tlv_row 0x50 ∷ tlv_row 0x5e ∷ []
 
 abbrev accept_pieces : Option Guti → Option (List ℕ) → Option (List Slice) → Option (List Bool) → Option GprsTimer → List Piece
-accept_pieces guti tai_list nssai status timer =
+accept_pieces guti tai_list nssai status t3512 =
     long 0x77 (option_map guti_octets guti) ∷ short 0x54 tai_list ∷ short 0x15 (option_map nssai_octets nssai) ∷ short 0x50 (option_map status_octets status)
-    ∷ short 0x5e (option_map timer3_octets timer) ∷ []
+    ∷ short 0x5e (option_map timer3_octets t3512) ∷ []
 
-pub registration_accept_back : (result : ℕ) (guti : Option Guti) (tai_list : Option (List ℕ)) (nssai : Option (List Slice)) (status : Option (List Bool)) (timer : Option GprsTimer)
+pub registration_accept_back : (result : ℕ) (guti : Option Guti) (tai_list : Option (List ℕ)) (nssai : Option (List Slice)) (status : Option (List Bool)) (t3512 : Option GprsTimer)
     → read_as guti_in (option_map guti_octets guti) ≡ guti → read_as tai_list_in tai_list ≡ tai_list → read_as nssai_in (option_map nssai_octets nssai) ≡ nssai
-    → read_as status_in (option_map status_octets status) ≡ status → read_as timer3_in (option_map timer3_octets timer) ≡ timer
-    → mm_in (spelling (RegistrationAccept result guti tai_list nssai status timer)) ≡ Ok (RegistrationAccept result guti tai_list nssai status timer)
+    → read_as status_in (option_map status_octets status) ≡ status → read_as timer3_in (option_map timer3_octets t3512) ≡ t3512
+    → mm_in (spelling (RegistrationAccept result guti tai_list nssai status t3512)) ≡ Ok (RegistrationAccept result guti tai_list nssai status t3512)
 unfolding registration_accept registration_accept_layout
-registration_accept_back result guti tai_list nssai status timer named areas slices read timed =
-    let pieces = accept_pieces guti tai_list nssai status timer in
+registration_accept_back result guti tai_list nssai status t3512 named areas slices read timed =
+    let pieces = accept_pieces guti tai_list nssai status t3512 in
     let fit : FitPieces pieces = (guti_long guti, (tt, (tt, (tt, (tt, tt))))) in
     let g = written_known accept_rows pieces 0x77 guti_in refl fit refl ∙ named in
     let l = written_known accept_rows pieces 0x54 tai_list_in refl fit refl ∙ areas in
     let n = written_known accept_rows pieces 0x15 nssai_in refl fit refl ∙ slices in
     let s = written_known accept_rows pieces 0x50 status_in refl fit refl ∙ read in
     let t = written_known accept_rows pieces 0x5e timer3_in refl fit refl ∙ timed in
-    back kinds.RegistrationAccept _ (RegistrationAccept result guti tai_list nssai status timer) (record {
+    back kinds.RegistrationAccept _ (RegistrationAccept result guti tai_list nssai status t3512) (record {
       piece = result ∷ [];
-      rest = pieces_octets (accept_pieces guti tai_list nssai status timer);
+      rest = pieces_octets (accept_pieces guti tai_list nssai status t3512);
       value = result;
       whole = refl;
       fits = omega arith;

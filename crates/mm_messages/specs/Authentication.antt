@@ -26,7 +26,7 @@ unfoldable pub authentication_response_layout : Layout Mm
 authentication_response_layout = elements (tlv_row 0x2d ∷ []) (λ es. AuthenticationResponse (known 0x2d (exactly 16) es))
 
 unfoldable pub authentication_response : Option (List ℕ) → List ℕ
-authentication_response res = head 0x57 ++ optional_tlv 0x2d res
+authentication_response res_star = head 0x57 ++ optional_tlv 0x2d res_star
 
 -- AUTHENTICATION REJECT
 abbrev pub authentication_reject_layout : Layout Mm

@@ -6,7 +6,7 @@ use Rattle.mm_messages.specs.declared.message.Mm.TheVariants.{RegistrationReques
 
 abbrev pub kind_of : Mm → MmKind
 kind_of (RegistrationRequest registration ksi identity capability status) = kinds.RegistrationRequest
-kind_of (RegistrationAccept result guti tai_list nssai status timer) = kinds.RegistrationAccept
+kind_of (RegistrationAccept result guti tai_list nssai status t3512) = kinds.RegistrationAccept
 kind_of RegistrationComplete = kinds.RegistrationComplete
 kind_of (RegistrationReject cause) = kinds.RegistrationReject
 kind_of (DeregistrationRequestUeOriginating switch_off ksi identity) = kinds.DeregistrationRequestUeOriginating
@@ -19,7 +19,7 @@ kind_of (ServiceAccept status) = kinds.ServiceAccept
 kind_of (ConfigurationUpdateCommand indication guti) = kinds.ConfigurationUpdateCommand
 kind_of ConfigurationUpdateComplete = kinds.ConfigurationUpdateComplete
 kind_of (AuthenticationRequest ksi abba rand autn) = kinds.AuthenticationRequest
-kind_of (AuthenticationResponse res) = kinds.AuthenticationResponse
+kind_of (AuthenticationResponse res_star) = kinds.AuthenticationResponse
 kind_of AuthenticationReject = kinds.AuthenticationReject
 kind_of (AuthenticationFailure cause auts) = kinds.AuthenticationFailure
 kind_of (IdentityRequest identity_type) = kinds.IdentityRequest

@@ -53,7 +53,7 @@ layout_of kinds.DlNasTransport = dl_nas_transport_layout
 -- a message as it is written
 abbrev pub spelling : Mm → List ℕ
 spelling (RegistrationRequest registration ksi identity capability status) = registration_request registration ksi identity capability status
-spelling (RegistrationAccept result guti tai_list nssai status timer) = registration_accept result guti tai_list nssai status timer
+spelling (RegistrationAccept result guti tai_list nssai status t3512) = registration_accept result guti tai_list nssai status t3512
 spelling RegistrationComplete = head 0x43
 spelling (RegistrationReject cause) = registration_reject cause
 spelling (DeregistrationRequestUeOriginating switch_off ksi identity) = deregistration_request_ue_originating switch_off ksi identity
@@ -66,7 +66,7 @@ spelling (ServiceAccept status) = service_accept status
 spelling (ConfigurationUpdateCommand indication guti) = configuration_update_command indication guti
 spelling ConfigurationUpdateComplete = head 0x55
 spelling (AuthenticationRequest ksi abba rand autn) = authentication_request ksi abba rand autn
-spelling (AuthenticationResponse res) = authentication_response res
+spelling (AuthenticationResponse res_star) = authentication_response res_star
 spelling AuthenticationReject = head 0x58
 spelling (AuthenticationFailure cause auts) = authentication_failure cause auts
 spelling (IdentityRequest identity_type) = identity_request identity_type
@@ -78,12 +78,13 @@ spelling (FiveGmmStatus cause) = five_gmm_status cause
 spelling (UlNasTransport container_type container psi request_type slice dnn) = ul_nas_transport container_type container psi request_type slice dnn
 spelling (DlNasTransport container_type container psi cause) = dl_nas_transport container_type container psi cause
 
--- what stands behind the head, by the message type
+-- what was read behind the head, as a reading of the whole
 abbrev pub told : Result Mm BodyRefusal → Result Mm MmRefusal
 told (Ok message) = Ok message
 told (Err (body.Mandatory n at)) = Err (Mandatory n at)
 told (Err body.Memory) = Err Memory
 
+-- what stands behind the head, by the message type
 abbrev pub body_at : Option MmKind → ℕ → Place → Result Mm MmRefusal
 body_at None code p = Err (UnknownType code)
 body_at (Some kind) code p = told (laid (layout_of kind) 1 p)

@@ -25,7 +25,7 @@ high_half octet = octet / 16
 abbrev pub ksi_of : ℕ → ℕ
 ksi_of half = half % 8
 
--- 5GS registration type in a half: bits 1 to 3. All other values are read as initial registration (clause 9.11.3.7).
+-- 5GS registration type in a half: bits 1 to 3 (clause 9.11.3.7). Other values than these four are read as initial registration.
 abbrev pub registration_type_code : RegistrationType → ℕ
 registration_type_code Initial = 1
 registration_type_code Mobility = 2
@@ -40,8 +40,8 @@ registration_type_of half =
 abbrev pub follow_on : ℕ
 follow_on = 8
 
--- de-registration type in a half: bit 4 tells a switch off; bits 1 and 2, the access, are always written as 3GPP access (1) and
--- passed over (clause 9.11.3.20)
+-- de-registration type in a half: bit 4 tells a switch off; bits 1 and 2, the access, are always written as 3GPP access (1), bit 3
+-- as 0, and all three are passed over (clause 9.11.3.20)
 abbrev pub is_switch_off : ℕ → Bool
 is_switch_off half = nat_le 8 (half % 16)
 

@@ -44,11 +44,11 @@ registration_accept_layout =
     RegistrationAccept result (known 0x77 guti_in es) (known 0x54 tai_list_in es) (known 0x15 nssai_in es) (known 0x50 status_in es) (known 0x5e timer3_in es)))
 
 unfoldable pub registration_accept : ℕ → Option Guti → Option (List ℕ) → Option (List Slice) → Option (List Bool) → Option GprsTimer → List ℕ
-registration_accept result guti tai_list nssai status timer =
+registration_accept result guti tai_list nssai status t3512 =
     head 0x42
     ++ (0x01 ∷ result
     ∷ (optional_tlve 0x77 (option_map guti_octets guti) ++ (optional_tlv 0x54 tai_list ++ (optional_tlv 0x15 (option_map nssai_octets nssai)
-    ++ (optional_tlv 0x50 (option_map status_octets status) ++ optional_tlv 0x5e (option_map timer3_octets timer))))))
+    ++ (optional_tlv 0x50 (option_map status_octets status) ++ optional_tlv 0x5e (option_map timer3_octets t3512))))))
 
 -- REGISTRATION COMPLETE
 abbrev pub registration_complete_layout : Layout Mm

@@ -52,18 +52,18 @@ pub fn read_response(reader: &mut Reader) -> Result<Mm, BodyRefusal>
 {
     let found = walk(reader.left(), &shape(&[tlv_row(0x2d)]));
     Ok(Mm::AuthenticationResponse {
-        res: elements::res(&found),
+        res_star: elements::res_star(&found),
     })
 }
 
 /// Writes an AUTHENTICATION RESPONSE.
 #[tactic(auto, unfolding(crate::specs::Authentication::authentication_response))]
-pub fn write_response(res: &Option<[u8; 16]>, out: &mut Writer) -> Result<(), Full>
-    ensures { Writes (authentication_response res.now) out.old out.new result }
+pub fn write_response(res_star: &Option<[u8; 16]>, out: &mut Writer) -> Result<(), Full>
+    ensures { Writes (authentication_response res_star.now) out.old out.new result }
 {
-    out.fits(3 + tlv_size(res))?;
+    out.fits(3 + tlv_size(res_star))?;
     write_head(MmKind::AuthenticationResponse, out)?;
-    tlv(0x2d, res, out)
+    tlv(0x2d, res_star, out)
 }
 
 /// Reads what stands behind the head of an AUTHENTICATION FAILURE.

@@ -21,10 +21,10 @@ pub fn request(ksi: Ksi, abba: &Abba, rand: &Option<[u8; 16]>, autn: &Option<[u8
 
 /// AUTHENTICATION RESPONSE.
 #[tactic(auto, using(crate::proofs::AuthenticationBack::authentication_response_back))]
-pub fn response(res: &Option<[u8; 16]>)
-    ensures { mm_in (spelling (AuthenticationResponse res.now)) ≡ Ok (AuthenticationResponse res.now) }
+pub fn response(res_star: &Option<[u8; 16]>)
+    ensures { mm_in (spelling (AuthenticationResponse res_star.now)) ≡ Ok (AuthenticationResponse res_star.now) }
 {
-    element_laws::octets_16(res);
+    element_laws::octets_16(res_star);
 }
 
 /// AUTHENTICATION REJECT.

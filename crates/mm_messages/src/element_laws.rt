@@ -91,12 +91,12 @@ pub fn tai_list(list: &Option<TaiList>)
     }
 }
 
-/// A timer.
-pub fn timer(timer: &Option<Timer3>)
-    ensures { read_as timer3_in (option_map timer3_octets timer.now) ≡ timer.now }
+/// A t3512.
+pub fn t3512(t3512: &Option<Timer3>)
+    ensures { read_as timer3_in (option_map timer3_octets t3512.now) ≡ t3512.now }
 {
-    if let Some(timer) = timer {
-        timer3_is_read_back(*timer);
+    if let Some(t3512) = t3512 {
+        timer3_is_read_back(*t3512);
     }
 }
 

@@ -69,7 +69,7 @@ pub fn tai_list(found: &Elements) -> Option<TaiList>
 }
 
 /// T3512 value (TS 24.501 clause 9.11.2.5).
-pub fn timer(found: &Elements) -> Option<Timer3>
+pub fn t3512(found: &Elements) -> Option<Timer3>
     ensures { result ≡ known 0x5e timer3_in found.now }
 {
     Timer3::read(found.get(0x5e)?).ok()
@@ -131,7 +131,7 @@ pub fn rand(found: &Elements) -> Option<[u8; 16]>
 }
 
 /// RES* (TS 24.501 clause 9.11.3.17).
-pub fn res(found: &Elements) -> Option<[u8; 16]>
+pub fn res_star(found: &Elements) -> Option<[u8; 16]>
     ensures { result ≡ known 0x2d (exactly 16) found.now }
 {
     found.get(0x2d)?.try_into().ok()

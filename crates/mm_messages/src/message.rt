@@ -23,10 +23,12 @@ pub const EPD_5GMM: u8 = 0x7e;
 /// The security header type of a plain message (TS 24.501 clause 9.3).
 pub const PLAIN: u8 = 0x00;
 
-/// A 5GMM message (TS 24.501 clause 8.2): one field for each of its mandatory parts, and one for each element that it may
-/// have. What a part's spare bits hold isn't kept.
+/// A 5GMM message (TS 24.501 clause 8.2): its mandatory parts, each half of an octet for itself, and the elements that it is
+/// known to have, where they are there. Bits that carry nothing here are not kept: spare ones, the follow-on request, the
+/// access type of a de-registration; nor are elements that are passed over.
 #[derive(Drop)]
 pub enum Mm {
+    /// REGISTRATION REQUEST (clause 8.2.6).
     RegistrationRequest {
         registration: RegistrationType,
         ksi: Ksi,
@@ -34,82 +36,105 @@ pub enum Mm {
         capability: Option<Capability>,
         status: Option<Status>,
     },
+    /// REGISTRATION ACCEPT (clause 8.2.7).
     RegistrationAccept {
         result: u8,
         guti: Option<Guti>,
         tai_list: Option<TaiList>,
         nssai: Option<Nssai>,
         status: Option<Status>,
-        timer: Option<Timer3>,
+        t3512: Option<Timer3>,
     },
+    /// REGISTRATION COMPLETE (clause 8.2.8).
     RegistrationComplete,
+    /// REGISTRATION REJECT (clause 8.2.9).
     RegistrationReject {
         cause: u8,
     },
+    /// DEREGISTRATION REQUEST of the handset (clause 8.2.12).
     DeregistrationRequestUeOriginating {
         switch_off: bool,
         ksi: Ksi,
         identity: Identity,
     },
+    /// DEREGISTRATION ACCEPT to the handset (clause 8.2.13).
     DeregistrationAcceptUeOriginating,
+    /// DEREGISTRATION REQUEST of the network (clause 8.2.14).
     DeregistrationRequestUeTerminated {
         switch_off: bool,
         cause: Option<u8>,
     },
+    /// DEREGISTRATION ACCEPT to the network (clause 8.2.15).
     DeregistrationAcceptUeTerminated,
+    /// SERVICE REQUEST (clause 8.2.16).
     ServiceRequest {
         ksi: Ksi,
         service_type: Half,
         identity: Identity,
         status: Option<Status>,
     },
+    /// SERVICE REJECT (clause 8.2.18).
     ServiceReject {
         cause: u8,
         status: Option<Status>,
     },
+    /// SERVICE ACCEPT (clause 8.2.17).
     ServiceAccept {
         status: Option<Status>,
     },
+    /// CONFIGURATION UPDATE COMMAND (clause 8.2.19).
     ConfigurationUpdateCommand {
         indication: Option<Half>,
         guti: Option<Guti>,
     },
+    /// CONFIGURATION UPDATE COMPLETE (clause 8.2.20).
     ConfigurationUpdateComplete,
+    /// AUTHENTICATION REQUEST (clause 8.2.1).
     AuthenticationRequest {
         ksi: Ksi,
         abba: Abba,
         rand: Option<[u8; 16]>,
         autn: Option<[u8; 16]>,
     },
+    /// AUTHENTICATION RESPONSE, with RES* (clause 8.2.2).
     AuthenticationResponse {
-        res: Option<[u8; 16]>,
+        res_star: Option<[u8; 16]>,
     },
+    /// AUTHENTICATION REJECT (clause 8.2.5).
     AuthenticationReject,
+    /// AUTHENTICATION FAILURE (clause 8.2.4).
     AuthenticationFailure {
         cause: u8,
         auts: Option<[u8; 14]>,
     },
+    /// IDENTITY REQUEST (clause 8.2.21).
     IdentityRequest {
         identity_type: Half,
     },
+    /// IDENTITY RESPONSE (clause 8.2.22).
     IdentityResponse {
         identity: Identity,
     },
+    /// SECURITY MODE COMMAND (clause 8.2.25).
     SecurityModeCommand {
         algs: Algs,
         ksi: Ksi,
         capability: Capability,
         asi: Option<Asi>,
     },
+    /// SECURITY MODE COMPLETE, with the whole request (clause 8.2.26).
     SecurityModeComplete {
         message: Option<Octets>,
     },
+    /// SECURITY MODE REJECT (clause 8.2.27).
     SecurityModeReject {
         cause: u8,
     },
+    /// 5GMM STATUS (clause 8.2.29).
     FiveGmmStatus {
         cause: u8,
     },
+    /// UL NAS TRANSPORT (clause 8.2.10).
     UlNasTransport {
         container_type: Half,
         container: Octets,
@@ -118,6 +143,7 @@ pub enum Mm {
         slice: Option<Slice>,
         dnn: Option<Dnn>,
     },
+    /// DL NAS TRANSPORT (clause 8.2.11).
     DlNasTransport {
         container_type: Half,
         container: Octets,
@@ -126,7 +152,7 @@ pub enum Mm {
     },
 }
 
-/// Why octets are no message.
+/// Why octets are no message (TS 24.501 clauses 7.2, 7.4 and 7.5).
 #[derive(Clone, Copy, Debug, PartialEq, Eq)]
 pub enum MmRefusal {
     /// They are no plain 5GMM message, which shows at the place `at`: another protocol discriminator, another header type,
@@ -134,7 +160,8 @@ pub enum MmRefusal {
     Ignored { at: usize },
     /// No message of the type `n` is read.
     UnknownType { n: u8 },
-    /// The mandatory part `part`, counted from 1, is the first that is cut or has no value. It starts at `at`.
+    /// Of the mandatory parts the one with the number `part` (from 1) is the first to be cut or to have no value; `at` is where
+    /// it starts (TS 24.501 clause 7.5.1).
     Mandatory { part: u8, at: usize },
     /// There was no memory left.
     Memory,
@@ -229,8 +256,8 @@ pub fn encode_mm(value: &Mm, out: &mut Writer) -> Result<(), Full>
             tai_list,
             nssai,
             status,
-            timer,
-        } => registration::write_accept(*result, guti, tai_list, nssai, status, timer, out),
+            t3512,
+        } => registration::write_accept(*result, guti, tai_list, nssai, status, t3512, out),
         Mm::RegistrationComplete => write_head(MmKind::RegistrationComplete, out),
         Mm::RegistrationReject { cause } => registration::write_reject(*cause, out),
         Mm::DeregistrationRequestUeOriginating {
@@ -265,7 +292,7 @@ pub fn encode_mm(value: &Mm, out: &mut Writer) -> Result<(), Full>
             rand,
             autn,
         } => authentication::write_request(*ksi, abba, rand, autn, out),
-        Mm::AuthenticationResponse { res } => authentication::write_response(res, out),
+        Mm::AuthenticationResponse { res_star } => authentication::write_response(res_star, out),
         Mm::AuthenticationReject => write_head(MmKind::AuthenticationReject, out),
         Mm::AuthenticationFailure { cause, auts } => {
             authentication::write_failure(*cause, auts, out)

@@ -20,9 +20,13 @@ const FOLLOW_ON: u8 = 8;
 /// The 5GS registration type (TS 24.501 clause 9.11.3.7).
 #[derive(Clone, Copy, Debug, PartialEq, Eq)]
 pub enum RegistrationType {
+    /// Initial registration.
     Initial,
+    /// Mobility registration updating.
     Mobility,
+    /// Periodic registration updating.
     Periodic,
+    /// Emergency registration, which is read so that it can be refused.
     Emergency,
 }
 
@@ -94,7 +98,7 @@ pub fn read_accept(reader: &mut Reader) -> Result<Mm, BodyRefusal>
         tai_list: elements::tai_list(&found),
         nssai: elements::allowed_nssai(&found),
         status: elements::status(&found),
-        timer: elements::timer(&found),
+        t3512: elements::t3512(&found),
     })
 }
 
@@ -135,17 +139,17 @@ pub fn write_accept(
     tai_list: &Option<TaiList>,
     nssai: &Option<Nssai>,
     status: &Option<Status>,
-    timer: &Option<Timer3>,
+    t3512: &Option<Timer3>,
     out: &mut Writer,
 ) -> Result<(), Full>
-    ensures { Writes (registration_accept outcome guti.now tai_list.now nssai.now status.now timer.now) out.old out.new result }
+    ensures { Writes (registration_accept outcome guti.now tai_list.now nssai.now status.now t3512.now) out.old out.new result }
 {
     out.fits(
         5 + tlve_size(guti)
             + tlv_size(tai_list)
             + tlv_size(nssai)
             + tlv_size(status)
-            + tlv_size(timer),
+            + tlv_size(t3512),
     )?;
     write_head(MmKind::RegistrationAccept, out)?;
     out.put(&[1, outcome])?;
@@ -153,7 +157,7 @@ pub fn write_accept(
     tlv(0x54, tai_list, out)?;
     tlv(0x15, nssai, out)?;
     tlv(0x50, status, out)?;
-    tlv(0x5e, timer, out)
+    tlv(0x5e, t3512, out)
 }
 
 /// Writes a REGISTRATION REJECT.

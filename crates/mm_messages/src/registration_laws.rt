@@ -36,15 +36,15 @@ pub fn accept(
     tai_list: &Option<TaiList>,
     nssai: &Option<Nssai>,
     status: &Option<Status>,
-    timer: &Option<Timer3>,
+    t3512: &Option<Timer3>,
 )
-    ensures { mm_in (spelling (RegistrationAccept outcome guti.now tai_list.now nssai.now status.now timer.now)) ≡ Ok (RegistrationAccept outcome guti.now tai_list.now nssai.now status.now timer.now) }
+    ensures { mm_in (spelling (RegistrationAccept outcome guti.now tai_list.now nssai.now status.now t3512.now)) ≡ Ok (RegistrationAccept outcome guti.now tai_list.now nssai.now status.now t3512.now) }
 {
     element_laws::guti(guti);
     element_laws::tai_list(tai_list);
     element_laws::nssai(nssai);
     element_laws::status(status);
-    element_laws::timer(timer);
+    element_laws::t3512(t3512);
 }
 
 /// REGISTRATION COMPLETE.

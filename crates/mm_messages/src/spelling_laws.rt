@@ -11,8 +11,8 @@ pub fn messages_are_spelled(octets: &[u8])
     ensures only { (message : Mm) → mm_in octets.now ≡ Ok message → SpellsMessage octets.now message }
 {}
 
-/// Of elements with the same identifier the first counts: behind a message whose elements are walked whole, octets change
-/// nothing in which only elements stand that have the identifier of one before.
+/// Of elements with the same identifier the first counts: behind a message none of whose elements is cut, further octets change
+/// nothing where each element in them has an identifier that stood before.
 pub fn first_elements_count(octets: &[u8])
     ensures { (shape : List RowParts) (tail more : List ℕ) → EndsInElements octets.now shape tail → is_walked_whole shape tail ≡ true → are_repeated (elements_in shape tail) (elements_in shape more) ≡ true → mm_in (octets.now ++ more) ≡ mm_in octets.now }
 {}

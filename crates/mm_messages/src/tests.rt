@@ -133,6 +133,24 @@ fn messages_that_carry_others(rt: HostRuntime) -> Result<(), Fail> {
 }
 
 #[test]
+fn a_message_that_is_cut_keeps_its_whole_elements(rt: HostRuntime) -> Result<(), Fail> {
+    let text = "7e0042010177000bf200f1100200400000000154070000f11000000115020101500200005e0106";
+    let octets = hex::decode(rt.alloc(), text).ok().ok_or("hex")?;
+    // Where its head with the mandatory part ends, and each of its elements.
+    let ends = [5, 19, 28, 32, 36, 39];
+    for size in 5..40 {
+        let whole = ends.iter().filter(|end| **end <= size).max().ok_or("end")?;
+        let message = decode_mm(rt.alloc(), &octets[..size])
+            .ok()
+            .ok_or("no message")?;
+        let mut out = Writer::new();
+        encode_mm(&message, &mut out).ok().ok_or("room")?;
+        assert_eq!(rt; out.octets(), &octets[..*whole]);
+    }
+    Ok(())
+}
+
+#[test]
 fn octets_that_are_no_message(rt: HostRuntime) -> Result<(), Fail> {
     let table: [(&[u8], MmRefusal); 24] = [
         (&[], MmRefusal::Ignored { at: 0 }),

@@ -37,15 +37,15 @@ abbrev pub is_vectors : List (List ℕ) → Bool
 is_vectors (form ∷ []) = pointwise nat_eq form vectors_word
 is_vectors _ = false
 
--- The form show HEX: one message, of 1 to 4,096 octets.
+-- The form show HEX: a message in hex digits. None has more than 4,096 octets, and no octets are none.
 unfoldable pub show_word : List ℕ
 show_word = codes "show"
 
-abbrev pub message_of : List ℕ → Option (List ℕ)
-message_of octets = if nat_le 1 (length octets) && nat_le (length octets) 4096 then Some octets else None
+abbrev pub of_a_message : List ℕ → Option (List ℕ)
+of_a_message octets = if nat_le 1 (length octets) && nat_le (length octets) 4096 then Some octets else None
 
 unfoldable pub hex_octets : List ℕ → Option (List ℕ)
-hex_octets text = option_and_then message_of (result_ok (decode_of text))
+hex_octets text = option_and_then of_a_message (result_ok (decode_of text))
 
 abbrev pub show_form : List (List ℕ) → Option (List ℕ)
 show_form (form ∷ hex ∷ []) = if pointwise nat_eq form show_word then hex_octets hex else None

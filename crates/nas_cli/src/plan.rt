@@ -33,6 +33,7 @@ pub enum Stop {
     Config { key: Key },
     /// A line of the script is wrong.
     Script { line: u32 },
+    /// There was no memory left.
     Memory,
 }
 

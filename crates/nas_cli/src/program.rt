@@ -1,5 +1,5 @@
 //! The program.
-ghost use Rattle.std.specs.Prelude.{◌≡◌, ◌≢◌, ◌∷◌, [], false, true, None, Some, IfOk, IfSome, IfNone, option_map};
+ghost use Rattle.std.specs.Prelude.{◌≡◌, ◌≢◌, ◌∷◌, [], false, true, None, Some, IfOk, IfSome, IfNone, IsSome, option_map};
 ghost use Rattle.nas_base.specs.Outside.{Rose};
 ghost use Rattle.nas_cli.specs.Program.{AsksFirst, IsOfContent, IsRefused, Says, SaysRun, asks, names_in, answer_to, planned, run_form, show_form, shown_answer, vectors_answer, words_answer, is_vectors, hex_octets};
 ghost use Rattle.nas_show.specs.Shown.{shown};
@@ -21,11 +21,11 @@ use std::alloc::Global;
 // A message has at most so many octets.
 const LONGEST_MESSAGE: usize = 4096;
 
-/// All that the program does, over the words of its command line, the files and the output that it is handed.
+/// The program, over the words of its command line, the files and the output that it is handed.
 ///
 /// `run CONFIG SCRIPT` writes the transcript of the run that the two files ask for, `show HEX` the message in the octets, and
 /// `vectors` the published vectors of the ciphers and key derivations; all end with 0. Octets that are no message give 13.
-/// Words of no other form are known: they give 2. A fault of the files
+/// Words of any other form give 2. A fault of the files
 /// gives the line that names it, and its status.
 pub fn nas<F: Files, O: Sink>(
     alloc: Global,
@@ -53,6 +53,9 @@ pub fn nas<F: Files, O: Sink>(
 
     // Words of a form never give 2.
     ensures form { result ≡ 2 → (run_form words.now ≡ None) × (is_vectors words.now ≡ false) × (show_form words.now ≡ None) }
+
+    // Only octets to show give 13.
+    ensures octets { result ≡ 13 → IsSome (show_form words.now) }
 {
     match run_names(words) {
         Some((config, script)) => run(alloc, config, script, files, out),
@@ -87,6 +90,7 @@ fn without_files<O: Sink>(alloc: Global, words: &Words, out: &mut O) -> ExitStat
     ensures file_fault { result ≢ 5 }
     ensures output_fault { result ≡ 6 → Rose (O.fault_count out.old) (O.fault_count out.new) }
     ensures form { result ≡ 2 → (is_vectors words.now ≡ false) × (show_form words.now ≡ None) }
+    ensures octets { result ≡ 13 → IsSome (show_form words.now) }
 {
     if asks_for_vectors(words) {
         return tell_vectors(alloc, out);
@@ -102,6 +106,7 @@ fn show_or_words<O: Sink>(alloc: Global, words: &Words, out: &mut O) -> ExitStat
     ensures file_fault { result ≢ 5 }
     ensures output_fault { result ≡ 6 → Rose (O.fault_count out.old) (O.fault_count out.new) }
     ensures form { result ≡ 2 → show_form words.now ≡ None }
+    ensures octets { result ≡ 13 → IsSome (show_form words.now) }
 {
     match octets_to_show(alloc, words) {
         Ok(Some(octets)) => tell_shown(alloc, octets.as_slice(), out),
@@ -127,7 +132,7 @@ fn octets_to_show(alloc: Global, words: &Words) -> Result<Option<Vec<u8>>, Memor
     }
 }
 
-// The 1 to 4,096 octets in hex, read in either case.
+// The octets of a message in hex digits, small or capital ones.
 #[tactic(auto, unfolding(crate::specs::Program::hex_octets))]
 fn octets_in(alloc: Global, text: &str) -> Result<Option<Vec<u8>>, Memory>
     ensures { IfOk result (λ octets. option_map (λ v. v.items) octets ≡ hex_octets text.now) }
@@ -191,6 +196,7 @@ fn run<F: Files, O: Sink>(
         IsRefused (content config.now) → AsksFirst (F.asked files.old) (F.asked files.new) (config.now ∷ [])) }
     ensures asked_both { IsOfContent result → F.asked files.new ≡ asks (config.now ∷ script.now ∷ []) (F.asked files.old) }
     ensures form { result ≢ 2 }
+    ensures octets { result ≢ 13 }
 {
     match read_run(alloc, config, script, files) {
         Ok(run) => tell_run(alloc, &run, out),

@@ -14,7 +14,7 @@ pub data Layout (A : Type 0) : Type 1 where
   part : {P : Type 0} → Frame → (List ℕ → Option P) → (P → Layout A) → Layout A
   elements : List RowParts → (List Element → A) → Layout A
 
--- a message without parts and elements
+-- no further part, and no element
 abbrev pub nothing_more : {A : Type 0} → A → Layout A
 nothing_more message = elements [] (λ es. message)
 
@@ -101,7 +101,7 @@ abbrev pub Cuts : {X : Type 0} → (X → List ℕ) → Result X BodyRefusal →
 Cuts view (Ok x) new read = read ≡ Ok (view x, new)
 Cuts view (Err e) new read = read ≡ Err e
 
--- the octets of a part as they are, and a value that was read of them
+-- the octets of a part as they are; and what became of reading its value, where any refusal names the part
 abbrev pub as_it_is : List ℕ → Option (List ℕ)
 as_it_is octets = Some octets
 

@@ -88,7 +88,7 @@ abbrev pub FitPieces : List Piece → Type 0
 FitPieces [] = Unit {0}
 FitPieces (piece ∷ pieces) = FitsPiece piece × FitPieces pieces
 
--- the first with an identifier, where no two have the same
+-- the value of the first with an identifier
 abbrev pub piece_of : ℕ → List Piece → Option (List ℕ)
 piece_of iei [] = None
 piece_of iei (piece ∷ pieces) = if iei == piece_iei piece then piece_value piece else piece_of iei pieces

@@ -8,7 +8,8 @@ use nas_base::Reader;
 /// Why octets are not the body of a message.
 #[derive(Clone, Copy, Debug, PartialEq, Eq)]
 pub enum BodyRefusal {
-    /// The mandatory part `part`, counted from 1, is the first that is cut or has no value. It starts at `at`.
+    /// Of the mandatory parts the one with the number `part` (from 1) is the first to be cut or to have no value; `at` is where
+    /// it starts.
     Mandatory { part: u8, at: usize },
     /// There was no memory left.
     Memory,

@@ -18,7 +18,8 @@ pub fn abba_is_read_back(abba: &Abba)
     let _items = &abba.items;
 }
 
-/// Of elements that are written one behind the other, each in the form of its row, a walk finds each.
+/// Of elements that are written one behind the other, each in the form of its row and no two with one identifier, a walk finds
+/// each.
 pub fn written_are_found()
     ensures { WrittenAreFound }
 {}

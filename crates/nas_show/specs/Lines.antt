@@ -1,5 +1,5 @@
--- The lines of a message: one for each mandatory part, with its length, and one for each element that is there, in the order in
--- which they are written.
+-- The lines of a message, in the order in which its pieces are written: each part as it stands in the message, then each element
+-- that is there.
 use Rattle.std.specs.Prelude.{ℕ, ◌+◌, List, [], ◌∷◌, ◌++◌, codes, Option, Some, None, option_map}
 use Rattle.hex.specs.Hex.{encode_lower}
 use Rattle.nas_base.specs.Writing.{lv, lve}
@@ -39,8 +39,8 @@ indication_label = codes "d"
 unfoldable pub lines : Mm → List ℕ
 lines (RegistrationRequest registration ksi identity capability status) =
     part_text (two_halves (registration_type_code registration + follow_on) ksi ∷ []) ++ (part_text (lve (identity_octets identity)) ++ (element_text 0x2e capability ++ element_text 0x50 (option_map status_octets status)))
-lines (RegistrationAccept outcome guti tai_list nssai status timer) =
-    part_text (0x01 ∷ outcome ∷ []) ++ (element_text 0x77 (option_map guti_octets guti) ++ (element_text 0x54 tai_list ++ (element_text 0x15 (option_map nssai_octets nssai) ++ (element_text 0x50 (option_map status_octets status) ++ element_text 0x5e (option_map timer3_octets timer)))))
+lines (RegistrationAccept outcome guti tai_list nssai status t3512) =
+    part_text (0x01 ∷ outcome ∷ []) ++ (element_text 0x77 (option_map guti_octets guti) ++ (element_text 0x54 tai_list ++ (element_text 0x15 (option_map nssai_octets nssai) ++ (element_text 0x50 (option_map status_octets status) ++ element_text 0x5e (option_map timer3_octets t3512)))))
 lines (RegistrationReject cause) =
     part_text (cause ∷ [])
 lines (DeregistrationRequestUeOriginating switch_off ksi identity) =
@@ -57,8 +57,8 @@ lines (ConfigurationUpdateCommand indication guti) =
     half_text indication_label indication ++ element_text 0x77 (option_map guti_octets guti)
 lines (AuthenticationRequest ksi abba rand autn) =
     part_text (ksi ∷ []) ++ (part_text (lv abba) ++ (element_text 0x21 rand ++ element_text 0x20 autn))
-lines (AuthenticationResponse res) =
-    element_text 0x2d res
+lines (AuthenticationResponse res_star) =
+    element_text 0x2d res_star
 lines (AuthenticationFailure cause auts) =
     part_text (cause ∷ []) ++ element_text 0x30 auts
 lines (IdentityRequest identity_type) =

@@ -42,14 +42,14 @@ pub fn append_lines(alloc: Global, text: &mut Vec<u8>, message: &Mm) -> Result<(
             tai_list,
             nssai,
             status,
-            timer,
+            t3512,
         } => {
             append_part(alloc, text, &[1, *result])?;
             append_element(alloc, text, 0x77, guti)?;
             append_element(alloc, text, 0x54, tai_list)?;
             append_element(alloc, text, 0x15, nssai)?;
             append_element(alloc, text, 0x50, status)?;
-            append_element(alloc, text, 0x5e, timer)
+            append_element(alloc, text, 0x5e, t3512)
         }
         Mm::RegistrationReject { cause } => { append_part(alloc, text, &[*cause]) }
         Mm::DeregistrationRequestUeOriginating {
@@ -98,7 +98,7 @@ pub fn append_lines(alloc: Global, text: &mut Vec<u8>, message: &Mm) -> Result<(
             append_element(alloc, text, 0x21, rand)?;
             append_element(alloc, text, 0x20, autn)
         }
-        Mm::AuthenticationResponse { res } => { append_element(alloc, text, 0x2d, res) }
+        Mm::AuthenticationResponse { res_star } => { append_element(alloc, text, 0x2d, res_star) }
         Mm::AuthenticationFailure { cause, auts } => {
             append_part(alloc, text, &[*cause])?;
             append_element(alloc, text, 0x30, auts)
