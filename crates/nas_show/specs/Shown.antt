@@ -29,7 +29,7 @@ plain (Ok message) = Ok (message_text message)
 plain (Err (Ignored at)) = Err at
 plain (Err (UnknownType n)) = Err 2
 plain (Err (Mandatory n at)) = Err at
-plain (Err Memory) = Err 0 -- no octets give this
+plain (Err Memory) = Err 0  -- no octets give this
 
 -- By the header type in the low half of the second octet: 0 is a plain message, 1 to 4 are frames, which have at least 8 octets.
 unfoldable pub shown : List ℕ → Result (List ℕ) ℕ
