@@ -1,0 +1,5 @@
+pub mod Contexts
+pub mod Counts
+pub mod Frame
+pub mod Passing
+pub mod Protecting
