@@ -9,6 +9,7 @@ mod challenges;
 mod contexts;
 mod counts;
 mod frames;
+mod laws;
 mod sends;
 mod verdicts;
 
@@ -16,5 +17,8 @@ pub use crate::challenges::Challenge;
 pub use crate::contexts::Context;
 pub use crate::counts::accept;
 pub use crate::frames::{Spent, protect};
+pub use crate::laws::{
+    accepted_once, estimate_is_least, one_message, passed_where_passing, protected_passes,
+};
 pub use crate::sends::{Pass, Send, Sends};
 pub use crate::verdicts::{Verdict, unprotect};
