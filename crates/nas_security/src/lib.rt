@@ -22,3 +22,6 @@ pub use crate::laws::{
 };
 pub use crate::sends::{Pass, Send, Sends};
 pub use crate::verdicts::{Verdict, unprotect};
+
+#[cfg(test)]
+mod tests;
