@@ -10,7 +10,7 @@ use Rattle.aes_cmac.specs.Nas.{nia2}
 use Rattle.nas_security.specs.Contexts.{SecurityContext}
 use Rattle.nas_security.specs.Counts.{estimate, low_octet, next_count, with_next}
 use Rattle.nas_security.specs.Frame.{as_sent, covered, frame}
-use Rattle.nas_security.specs.Laws.{HaveOneMessage, HaveSameKeys, IsAcceptedOnce, IsPassedWherePassing, ProtectedPasses}
+use Rattle.nas_security.specs.Laws.{HaveOneMessage, IsAcceptedOnce, IsFormed, IsPassedWherePassing, ProtectedPasses}
 use Rattle.nas_security.specs.Passing.{Passes, checked, estimated, header_in, judged, mac_in, sequence_number_in, without_spare}
 use Rattle.nas_security.specs.declared.verdicts.Verdict.{Verdict}
 use Rattle.nas_security.specs.declared.verdicts.Verdict.TheVariants.{Plain, Malformed, Spent, Failed, Passed}
@@ -97,11 +97,6 @@ mac_is_right true b2 next count header want got plain v e =
 mac_is_right false false next count header want got plain v e =
     let other : Failed want got ≡ Passed count header = ap verdict_in e in (cc, cc, cc)
 mac_is_right false true next count header want got plain v e = (refl, refl, e)
-
-pub record IsFormed (octets : List ℕ) : Type 0 where
-  pub protocol : get_or octets 0 0 ≡ 0x7e
-  pub protected : (1 ≤ header_in octets) × (header_in octets ≤ 4)
-  pub size : (8 ≤ length octets) × (length octets ≤ 4096)
 
 -- what passed has a frame's form
 passed_is_formed : (context : SecurityContext) (dir : Dir) (octets : List ℕ) (count header : ℕ) (plain : List ℕ)

@@ -1,6 +1,6 @@
 //! What holds of every context and of all octets. These functions do nothing: their contracts are the laws.
 ghost use Rattle.nas_security.specs.Counts.{IsLeast, estimate};
-ghost use Rattle.nas_security.specs.Laws.{HaveOneMessage, IsAcceptedOnce, IsPassedWherePassing, ProtectedPasses};
+ghost use Rattle.nas_security.specs.Laws.{AreJudged, HaveOneMessage, IsAcceptedOnce, IsPassedWherePassing, ProtectedPasses};
 
 use crate::Context;
 use nas_base::{Count, Dir};
@@ -14,6 +14,12 @@ pub fn estimate_is_least(next: u32, sequence_number: u8)
 /// at the count that the sequence number is taken for. It then answers that count and header type, and writes that message.
 pub fn passed_where_passing(context: &Context, dir: Dir, octets: &[u8])
     ensures { IsPassedWherePassing context.now dir octets.now }
+{}
+
+/// Where `unprotect` answers `Plain`, `Malformed`, `Spent` and `Failed`, with its place, next count and MACs: for each of them the
+/// octets that it comes on, and no others.
+pub fn verdicts_have_causes(context: &Context, dir: Dir, octets: &[u8])
+    ensures { AreJudged context.now dir octets.now }
 {}
 
 /// What `protect` wrote at a count, `unprotect` answers to with `Passed`, that count and header type, and that message, under a

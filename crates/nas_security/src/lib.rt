@@ -19,6 +19,7 @@ pub use crate::counts::accept;
 pub use crate::frames::{Spent, protect};
 pub use crate::laws::{
     accepted_once, estimate_is_least, one_message, passed_where_passing, protected_passes,
+    verdicts_have_causes,
 };
 pub use crate::sends::{Pass, Send, Sends};
 pub use crate::verdicts::{Verdict, unprotect};

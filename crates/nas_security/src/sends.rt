@@ -1,5 +1,5 @@
 //! Messages that were sent, and checks that were passed.
-ghost use Rattle.std.specs.Prelude.{◌≡◌, [], ◌∷◌, ◌++◌, OnOk, OnErr};
+ghost use Rattle.std.specs.Prelude.{◌≡◌, [], ◌∷◌, ◌++◌, IfOk, OnOk, OnErr};
 
 use crate::Challenge;
 use nas_base::{Count, Memory, Octets, Supi};
@@ -40,6 +40,44 @@ impl Model for Sends {
     ghost Value = { List Send };
 
     ghost view = { λ s. s.items.items };
+}
+
+impl Pass {
+    /// An equal value.
+    pub fn copy(&self) -> Pass
+        ensures { result ≡ self.now }
+    {
+        Pass {
+            supi: self.supi.copy(),
+            challenge: self.challenge,
+            count: self.count,
+        }
+    }
+}
+
+impl Send {
+    /// An equal message.
+    ///
+    /// # Errors
+    ///
+    /// `Memory`.
+    pub fn copy(&self, alloc: Global) -> Result<Send, Memory>
+        ensures { IfOk result (λ send. send ≡ self.now) }
+    {
+        let pass = match &self.pass {
+            Some(pass) => Some(pass.copy()),
+            None => None,
+        };
+        match Octets::copy(alloc, self.octets.as_slice()) {
+            Ok(octets) => Ok(Send {
+                link: self.link,
+                fresh: self.fresh,
+                octets,
+                pass,
+            }),
+            Err(_) => Err(Memory),
+        }
+    }
 }
 
 impl Sends {

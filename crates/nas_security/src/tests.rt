@@ -2,10 +2,10 @@
 ghost use Rattle.std.specs.Prelude.{◌≡◌, ◌≤◌, ◌^◌, IfOk};
 
 use crate::counts::estimate;
-use crate::{Challenge, Context, Spent, Verdict, accept, protect, unprotect};
+use crate::{Challenge, Context, Pass, Send, Sends, Spent, Verdict, accept, protect, unprotect};
 use hex::FromHex;
 use key_chain::NasKeys;
-use nas_base::{Count, Dir, Ksi, Writer};
+use nas_base::{Count, Dir, Ksi, Octets, Supi, Writer};
 use nas_elements::Algs;
 use std::test::Fail;
 
@@ -201,5 +201,41 @@ fn judges_forms(rt: HostRuntime) -> Result<(), Fail> {
     let mut out = Writer::new();
     let verdict = unprotect(&context, Dir::Up, &long[..4096], &mut out);
     assert!(rt; matches!(verdict, Verdict::Failed { .. }));
+    Ok(())
+}
+
+#[test]
+fn keeps_messages(rt: HostRuntime) -> Result<(), Fail> {
+    let pass = Pass {
+        supi: Supi::from_slice(&[0, 0, 1, 0, 1, 0, 0, 0, 0, 0, 0, 0, 0, 0, 2]).ok_or("a SUPI")?,
+        challenge: context(0, 0)?.challenge,
+        count: Count(3),
+    };
+    let Ok(octets) = Octets::copy(rt.alloc(), &COMPLETE) else {
+        return Err("there is memory".into());
+    };
+    let send = Send {
+        link: 1,
+        fresh: true,
+        octets,
+        pass: Some(pass),
+    };
+    let mut sends = Sends::new(rt.alloc());
+    let Ok(copy) = send.copy(rt.alloc()) else {
+        return Err("there is memory".into());
+    };
+    let Ok(()) = sends.push(rt.alloc(), copy) else {
+        return Err("there is memory".into());
+    };
+    let [kept] = sends.as_slice() else {
+        return Err("it is kept".into());
+    };
+    assert_eq!(rt; kept.link, 1);
+    assert!(rt; kept.fresh);
+    assert_eq!(rt; kept.octets.as_slice(), COMPLETE.as_slice());
+    let Some(kept) = &kept.pass else {
+        return Err("it is protected".into());
+    };
+    assert_eq!(rt; kept.count, Count(3));
     Ok(())
 }
