@@ -1,5 +1,5 @@
 -- The parts of a frame.
-use Rattle.std.proofs.Common.{◌≡◌, refl, sym, ap, ◌∙◌, ℕ, ◌+◌, ◌≤◌, List, [], ◌∷◌, ◌++◌, length, take, drop, get_or, slice_index, Bool, true, false, if◌then◌else◌, arith, lit≤}
+use Rattle.std.proofs.Common.{◌≡◌, refl, sym, ap, ◌∙◌, ℕ, ◌+◌, ◌≤◌, List, ◌∷◌, ◌++◌, length, take, drop, get_or, Bool, true, false, if◌then◌else◌, arith, lit≤}
 use Rattle.std.proofs.Math.Path.{ap₂}
 use Rattle.std.proofs.lemmas.List.{length-append, take_at, drop_at, drop-drop, get_or-append_right, take-append-drop, drop_more}
 use Rattle.nas_base.specs.declared.count.Dir.{Dir}

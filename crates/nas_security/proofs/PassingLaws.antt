@@ -1,5 +1,5 @@
 -- What passes.
-use Rattle.std.proofs.Common.{◌≡◌, refl, sym, ap, subst, ◌∙◌, ℕ, ◌+◌, ◌^◌, ◌%◌, ◌<◌, ◌≤◌, ◌↔◌, List, [], ◌∷◌, ◌++◌, length, take, drop, get_or, Bool, true, false, not, nat_le, nat_lt, ◌==◌, if◌then◌else◌, arith}
+use Rattle.std.proofs.Common.{◌≡◌, refl, sym, ap, subst, ◌∙◌, ℕ, ◌+◌, ◌^◌, ◌%◌, ◌<◌, ◌≤◌, List, [], ◌∷◌, length, drop, get_or, Bool, true, false, not, nat_le, nat_lt, ◌==◌, if◌then◌else◌, arith}
 use Rattle.std.proofs.Math.Path.{ap₂}
 use Rattle.std.proofs.lemmas.Grind.{common_steps}
 use Rattle.std.proofs.lemmas.Slice.Eq.{bytes_eq-Decides}
@@ -11,7 +11,7 @@ use Rattle.nas_security.specs.Contexts.{SecurityContext}
 use Rattle.nas_security.specs.Counts.{estimate, low_octet, next_count, with_next}
 use Rattle.nas_security.specs.Frame.{as_sent, covered, frame}
 use Rattle.nas_security.specs.Laws.{HaveOneMessage, IsAcceptedOnce, IsFormed, IsPassedWherePassing, ProtectedPasses}
-use Rattle.nas_security.specs.Passing.{Passes, checked, estimated, header_in, judged, mac_in, sequence_number_in, without_spare}
+use Rattle.nas_security.specs.Passing.{Passes, estimated, header_in, judged, mac_in, sequence_number_in, without_spare}
 use Rattle.nas_security.specs.declared.verdicts.Verdict.{Verdict}
 use Rattle.nas_security.specs.declared.verdicts.Verdict.TheVariants.{Plain, Malformed, Spent, Failed, Passed}
 use Rattle.nas_security.proofs.CountLaws.{estimate_near}

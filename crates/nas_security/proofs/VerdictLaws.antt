@@ -1,5 +1,5 @@
 -- Where each verdict comes.
-use Rattle.std.proofs.Common.{◌≡◌, refl, ap, ◌∙◌, ℕ, ◌^◌, ◌<◌, ◌≤◌, List, [], length, get_or, Bool, true, false, arith}
+use Rattle.std.proofs.Common.{◌≡◌, ◌∙◌, ℕ, ◌^◌, ◌<◌, ◌≤◌, List, [], false, arith}
 use Rattle.std.proofs.lemmas.Grind.{common_steps}
 use Rattle.std.proofs.lemmas.Slice.Eq.{bytes_eq-Decides}
 use Rattle.std.specs.Str.{bytes_eq}
@@ -7,9 +7,8 @@ use Rattle.nas_base.specs.declared.count.Dir.{Dir}
 use Rattle.nas_security.specs.Contexts.{SecurityContext}
 use Rattle.nas_security.specs.Counts.{next_count}
 use Rattle.nas_security.specs.Laws.{AreJudged, IsFormed, count_of, wanted}
-use Rattle.nas_security.specs.Passing.{estimated, header_in, judged, mac_in}
-use Rattle.nas_security.specs.declared.verdicts.Verdict.{Verdict}
-use Rattle.nas_security.specs.declared.verdicts.Verdict.TheVariants.{Plain, Malformed, Spent, Failed, Passed}
+use Rattle.nas_security.specs.Passing.{estimated, judged, mac_in}
+use Rattle.nas_security.specs.declared.verdicts.Verdict.TheVariants.{Spent, Failed}
 
 -- what has a frame's form is judged by its count and its MAC
 by_count : (context : SecurityContext) (dir : Dir) (octets : List ℕ) → IsFormed octets → judged context dir octets ≡ estimated context dir octets

@@ -1,5 +1,5 @@
 -- Security contexts.
-use Rattle.std.specs.Prelude.{◌≡◌, ◌≤◌, ◌^◌, ◌⊎◌, ℕ, List}
+use Rattle.std.specs.Prelude.{◌≡◌, ◌⊎◌, ℕ, List}
 use Rattle.key_chain.specs.declared.nas.NasKeys.{NasKeys}
 use Rattle.nas_elements.specs.Algs.{Algorithms}
 use Rattle.nas_security.specs.declared.challenges.Challenge.{Challenge}

@@ -1,5 +1,5 @@
 -- The frame of a protected message (TS 24.501 clause 9.1.1, TS 33.501 clause 6.4).
-use Rattle.std.specs.Prelude.{ℕ, Bool, ◌&&◌, ◌||◌, ◌==◌, List, [], ◌∷◌, ◌++◌, if◌then◌else◌}
+use Rattle.std.specs.Prelude.{ℕ, Bool, ◌&&◌, ◌||◌, ◌==◌, List, ◌∷◌, ◌++◌, if◌then◌else◌}
 use Rattle.aes_cmac.specs.Nas.{nea2, nia2}
 use Rattle.nas_base.specs.declared.count.Dir.{Dir}
 use Rattle.nas_security.specs.Contexts.{SecurityContext}

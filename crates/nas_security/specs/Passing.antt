@@ -1,5 +1,5 @@
 -- Which octets pass the check of a context.
-use Rattle.std.specs.Prelude.{◌≡◌, ◌≤◌, ◌<◌, ◌^◌, ◌%◌, ℕ, Bool, not, ◌==◌, nat_le, nat_lt, List, [], ◌∷◌, length, take, drop, slice_index, if◌then◌else◌}
+use Rattle.std.specs.Prelude.{◌≡◌, ◌≤◌, ◌<◌, ◌^◌, ◌%◌, ℕ, not, ◌==◌, nat_le, nat_lt, List, [], ◌∷◌, length, take, drop, slice_index, if◌then◌else◌}
 use Rattle.std.specs.Str.{bytes_eq}
 use Rattle.aes_cmac.specs.Nas.{nia2}
 use Rattle.nas_base.specs.declared.count.Dir.{Dir}
