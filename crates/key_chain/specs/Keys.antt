@@ -1,8 +1,9 @@
--- The keys of an authentication, from CK and IK down to KAMF (TS 33.501 Annex A), and RES*.
+-- The keys of an authentication, from CK and IK down to KAMF and the NAS keys (TS 33.501 Annex A), and RES*.
 use Rattle.std.specs.Prelude.{ℕ, List, [], ◌∷◌, ◌++◌, drop}
 use Rattle.nas_base.specs.Plmn.{PlmnIdentity}
 use Rattle.key_chain.specs.Kdf.{kdf}
 use Rattle.key_chain.specs.ServingNetwork.{ascii, snn}
+use Rattle.key_chain.specs.declared.nas.NasKeys.{NasKeys}
 
 -- the last 16 octets of 32: the 128 least significant bits
 abbrev pub last_half : List ℕ → List ℕ
@@ -23,3 +24,11 @@ kseaf kausf plmn = kdf kausf 0x6c (snn plmn ∷ [])
 -- KAMF (Annex A.7.0), from the digits of the IMSI as text and ABBA
 unfoldable pub kamf : List ℕ → List ℕ → List ℕ → List ℕ
 kamf kseaf supi abba = kdf kseaf 0x6d (ascii supi ∷ abba ∷ [])
+
+-- an algorithm's key (Annex A.8), by its type distinguisher, N-NAS-enc-alg 1 or N-NAS-int-alg 2, and its identity
+unfoldable pub nas_key : List ℕ → ℕ → ℕ → List ℕ
+nas_key kamf distinguisher algorithm = last_half (kdf kamf 0x69 ((distinguisher ∷ []) ∷ (algorithm ∷ []) ∷ []))
+
+-- KNASenc and KNASint
+abbrev pub nas_keys : List ℕ → ℕ → ℕ → NasKeys
+nas_keys kamf nea nia = record { enc = nas_key kamf 1 nea; int = nas_key kamf 2 nia }

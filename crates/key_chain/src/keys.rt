@@ -67,8 +67,8 @@ fn joined(ck: &[u8; 16], ik: &[u8; 16]) -> [u8; 32]
     key
 }
 
-// The last 16 octets.
-fn last_half(octets: &[u8; 32]) -> [u8; 16]
+/// The last 16 octets.
+pub fn last_half(octets: &[u8; 32]) -> [u8; 16]
     ensures { result ≡ last_half octets.now }
 {
     let (_, back) = octets.split_at(16);

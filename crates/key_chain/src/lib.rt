@@ -1,5 +1,5 @@
 //! The keys of a 5GS subscriber: HMAC and the key derivation function of 3GPP over it, the name of the serving network,
-//! and the chain from CK and IK down to KAMF, with RES* beside it (TS 33.220 Annex B, TS 33.501 Annex A).
+//! and the chain from CK and IK down to KAMF and the NAS keys, with RES* beside it (TS 33.220 Annex B, TS 33.501 Annex A).
 //!
 //! No call refuses and none takes memory. None of them runs in a time that is independent of its arguments.
 #![tactic(auto)]
@@ -7,6 +7,7 @@
 mod hmac;
 mod kdf;
 mod keys;
+mod nas;
 mod serving_network;
 #[cfg(test)]
 mod tests;
@@ -14,4 +15,5 @@ mod tests;
 pub use crate::hmac::hmac256;
 pub use crate::kdf::{kdf1, kdf2, kdf3};
 pub use crate::keys::{kamf, kausf, kseaf, res_star};
+pub use crate::nas::{NasKeys, nas_keys};
 pub use crate::serving_network::snn;

@@ -1,5 +1,5 @@
 //! Values from RFC 4231, and from Python's hmac over what the standards say is hashed.
-use crate::{hmac256, kamf, kausf, kdf1, kdf2, kdf3, kseaf, res_star, snn};
+use crate::{hmac256, kamf, kausf, kdf1, kdf2, kdf3, kseaf, nas_keys, res_star, snn};
 use hex::FromHex;
 use nas_base::{Plmn, Supi};
 use std::test::Fail;
@@ -81,6 +81,28 @@ fn follows_the_chain(rt: HostRuntime) -> Result<(), Fail> {
     assert_eq!(rt;
         shown.as_str(),
         "b791b2da28b70cad6e8803ef22a36780f285848ff6e71cc77d70add82c6b557e"
+    );
+    Ok(())
+}
+
+#[test]
+fn derives_nas_keys(rt: HostRuntime) -> Result<(), Fail> {
+    let kamf = <[u8; 32]>::from_hex(
+        "b791b2da28b70cad6e8803ef22a36780f285848ff6e71cc77d70add82c6b557e",
+    )?;
+    let keys = nas_keys(&kamf, 2, 2);
+    assert_eq!(rt;
+        hex::encode(rt.alloc(), keys.enc)?.as_str(),
+        "5f241e08ab67061c157d09d40d10735e"
+    );
+    assert_eq!(rt;
+        hex::encode(rt.alloc(), keys.int)?.as_str(),
+        "e1d9e413d17a590e42d404f0c85a9d86"
+    );
+    let plain = nas_keys(&kamf, 0, 2);
+    assert_eq!(rt;
+        hex::encode(rt.alloc(), plain.enc)?.as_str(),
+        "e63fe60d8d7423f1c9b0cfd4df60689b"
     );
     Ok(())
 }

@@ -1,0 +1,4 @@
+pub mod CountLaws
+pub mod FrameLemmas
+pub mod PassingLaws
+pub mod VerdictLaws
