@@ -140,12 +140,12 @@ fn a_message_that_is_cut_keeps_its_whole_elements(rt: HostRuntime) -> Result<(),
     let ends = [5, 19, 28, 32, 36, 39];
     for size in 5..40 {
         let whole = ends.iter().filter(|end| **end <= size).max().ok_or("end")?;
-        let message = decode_mm(rt.alloc(), &octets[..size])
-            .ok()
-            .ok_or("no message")?;
+        let cut = octets.get(..size).ok_or("size")?;
+        let message = decode_mm(rt.alloc(), cut).ok().ok_or("no message")?;
         let mut out = Writer::new();
         encode_mm(&message, &mut out).ok().ok_or("room")?;
-        assert_eq!(rt; out.octets(), &octets[..*whole]);
+        let kept = octets.get(..*whole).ok_or("whole")?;
+        assert_eq!(rt; out.octets(), kept);
     }
     Ok(())
 }

@@ -8,6 +8,7 @@
 mod aes_calls;
 mod answers;
 mod element_calls;
+mod frame_calls;
 mod key_calls;
 mod message_calls;
 mod milenage_calls;

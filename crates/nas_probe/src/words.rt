@@ -95,6 +95,11 @@ pub fn number(word: &str) -> Result<u64, Refusal>
     }
 }
 
+/// A number in decimal digits, below 2^32.
+pub fn quantity(word: &str) -> Result<u32, Refusal> {
+    word.parse::<u32>().map_err(|_| Refusal::Unreadable)
+}
+
 /// A NAS COUNT in decimal digits, below 2^24.
 pub fn count(word: &str) -> Result<Count, Refusal> {
     match word.parse::<u32>() {
