@@ -21,6 +21,7 @@ use std::alloc::{AllocError, Global};
 
 // The longest message of a frame, and how many counts there are.
 const LONGEST: usize = 4089;
+
 const COUNTS: u32 = 0x0100_0000;
 
 /// The answer to a call.
@@ -29,13 +30,22 @@ pub fn answer(alloc: Global, words: &[&str]) -> Result<String, Refusal> {
         ["protect", kamf, nea, next, dir, header, plain] => {
             let mut context = context(kamf, nea, next)?;
             let plain = octets(alloc, plain)?;
-            protected(alloc, &mut context, direction(dir)?, quantity(header)?, &plain)
+            protected(
+                alloc,
+                &mut context,
+                direction(dir)?,
+                quantity(header)?,
+                &plain,
+            )
         }
         ["unprotect", kamf, nea, next, dir, frame] => {
             let context = context(kamf, nea, next)?;
             judged(alloc, &context, direction(dir)?, &octets(alloc, frame)?)
         }
-        ["time_protect", length, times] => sum(alloc, protect_often(quantity(length)?, quantity(times)?)?),
+        ["time_protect", length, times] => sum(
+            alloc,
+            protect_often(quantity(length)?, quantity(times)?)?,
+        ),
         ["time_unprotect", length, times] => {
             sum(alloc, unprotect_often(quantity(length)?, quantity(times)?)?)
         }
@@ -143,8 +153,10 @@ fn unprotect_often(length: u32, times: u32) -> Result<u64, Refusal> {
     let mut sum = 0u64;
     for _ in 0..times {
         let mut out = Writer::new();
-        if let Verdict::Passed { count: _, header: _ } =
-            unprotect(&context, Dir::Up, frame.octets(), &mut out)
+        if let Verdict::Passed {
+            count: _,
+            header: _,
+        } = unprotect(&context, Dir::Up, frame.octets(), &mut out)
         {
             sum = sum.wrapping_add(sum_of(out.octets()));
         }
