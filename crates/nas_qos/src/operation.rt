@@ -1,0 +1,56 @@
+//! Operations on QoS rules.
+ghost use Rattle.std.specs.Prelude.{◌≡◌, true};
+ghost use Rattle.nas_qos.specs.Operations.{is_ops};
+
+use crate::Filters;
+use std::marker::Model;
+
+/// An operation on the rule of an identifier other than 0 (TS 24.501 clause 9.11.4.13). The code is 1 to create the rule, 2 to delete
+/// it, 3 to add filters, 4 to replace them, 5 to delete some, 6 to change it without filters. The tail is a precedence and a QFI of 0
+/// to 63; create has one.
+#[derive(Drop)]
+pub struct RuleOp {
+    pub id: u8,
+    pub code: u8,
+    pub default: bool,
+    pub filters: Filters,
+    pub tail: Option<(u8, u8)>,
+}
+
+impl Model for RuleOp {
+    ghost use Rattle.std.specs.Prelude.{◌≡◌, true};
+    ghost use Rattle.nas_qos.specs.Operations.{Operation, is_operation};
+
+    ghost Value = { Operation };
+
+    ghost view = { λ o. record { id = o.id; code = o.code; default = o.default; filters = o.filters; tail = o.tail } };
+
+    ghost invariant = { λ o. is_operation (record { id = o.id; code = o.code; default = o.default; filters = o.filters; tail = o.tail }) ≡ true };
+}
+
+/// Operations in order, which are written as at most 2,048 octets.
+#[derive(Drop)]
+pub struct RuleOps {
+    pub items: Vec<RuleOp>,
+}
+
+impl Model for RuleOps {
+    ghost use Rattle.std.specs.Prelude.{List, ◌≡◌, true};
+    ghost use Rattle.nas_qos.specs.Operations.{Operation, is_ops};
+
+    ghost Value = { List Operation };
+
+    ghost view = { λ o. o.items.items };
+
+    ghost invariant = { λ o. is_ops o.items.items ≡ true };
+}
+
+impl RuleOps {
+    /// The operations in order.
+    pub fn as_slice(&self) -> &[RuleOp]
+        ensures value { result.now ≡ self.now }
+        ensures ops { is_ops result.now ≡ true }
+    {
+        self.items.as_slice()
+    }
+}
