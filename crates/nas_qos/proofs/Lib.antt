@@ -1,0 +1,4 @@
+pub mod FilterReading
+pub mod OperationReading
+pub mod PartLaws
+pub mod TurnsReading

@@ -51,6 +51,11 @@ abbrev pub ids_differ : List PacketFilter → Bool
 ids_differ [] = true
 ids_differ (filter ∷ filters) = not (names filter.id filters) && ids_differ filters
 
+-- an identifier of a filter that occurs twice in one operation is a syntax error
+abbrev pub differing : Option (List PacketFilter × ℕ) → Option (List PacketFilter × ℕ)
+differing None = None
+differing (Some read) = if ids_differ read.0 then Some read else None
+
 -- what a filter is written as, in an operation with this code
 abbrev pub filter_octets : ℕ → PacketFilter → List ℕ
 filter_octets code filter =

@@ -3,7 +3,7 @@ use Rattle.std.specs.Prelude.{ℕ, ◌+◌, ◌-◌, ◌*◌, ◌/◌, ◌%◌, 
 use Rattle.std.specs.List.{list_all}
 use Rattle.byteorder.specs.Endian.{big_number}
 use Rattle.nas_base.specs.Writing.{lve}
-use Rattle.nas_qos.specs.Filters.{PacketFilter, filters_in, filters_octets, ids_differ, is_filters}
+use Rattle.nas_qos.specs.Filters.{PacketFilter, differing, filters_in, filters_octets, is_filters}
 use Rattle.nas_qos.specs.Turns.{all_octets, in_turn}
 
 -- Operation codes: 1 create, 2 delete, 3 add filters, 4 replace filters, 5 delete filters, 6 change without filters. The tail is a
@@ -30,11 +30,11 @@ tail_in code (precedence ∷ []) = None
 tail_in code (precedence ∷ qfi ∷ []) = Some (Some (precedence, qfi % 64))
 tail_in code (precedence ∷ qfi ∷ other ∷ octets) = None
 
--- an operation with these filters and this tail; an identifier of a filter that occurs twice is a syntax error
+-- an operation with this tail, where it has one
 abbrev pub operation_of : ℕ → ℕ → Bool → List PacketFilter → Option (Option (ℕ × ℕ)) → Option Operation
 operation_of id code default filters None = None
 operation_of id code default filters (Some tail) =
-    if ids_differ filters then Some (record { id = id; code = code; default = default; filters = filters; tail = tail }) else None
+    Some (record { id = id; code = code; default = default; filters = filters; tail = tail })
 
 -- an operation with these filters, of so many octets, which stand first in the octets
 abbrev pub operation_with : ℕ → ℕ → Bool → List ℕ → Option (List PacketFilter × ℕ) → Option Operation
@@ -47,7 +47,7 @@ abbrev pub operation_in : ℕ → List ℕ → Option Operation
 operation_in id [] = None
 operation_in id (first ∷ octets) =
     if is_code (first / 32) && has_number (first / 32) (first % 16)
-    then operation_with id (first / 32) (first / 16 % 2 == 1) octets (filters_in (first % 16) (first / 32) octets)
+    then operation_with id (first / 32) (first / 16 % 2 == 1) octets (differing (filters_in (first % 16) (first / 32) octets))
     else None
 
 -- how many octets the operation that stands first has: identifier, length, contents
@@ -100,6 +100,7 @@ ops_octets ops = all_octets operation_octets ops
 abbrev pub is_directed : ℕ → PacketFilter → Bool
 is_directed code filter = if code == 5 then nat_eq filter.direction 0 else nat_lt 0 filter.direction
 
+-- a QFI has 6 bits
 abbrev pub is_tail : ℕ → Option (ℕ × ℕ) → Bool
 is_tail code None = not (code == 1)
 is_tail code (Some tail) = nat_lt tail.1 64

@@ -1,6 +1,8 @@
 //! Packet filters.
-ghost use Rattle.std.specs.Prelude.{◌≡◌, ◌≤◌, ◌<◌, [], length, true, IfOk};
-ghost use Rattle.nas_qos.specs.Filters.{filter_size, filters_in, first_filter, ids_differ, is_filter, is_filters, names, whole_filter};
+ghost use Rattle.std.specs.Prelude.{◌≡◌, ◌≤◌, ◌<◌, [], length, true, nat_eq, nat_le, ◌&&◌, IfOk};
+ghost use Rattle.nas_qos.specs.Filters.{differing, filter_octets, filter_size, filters_in, first_filter, ids_differ, is_filter, is_filters, names, whole_filter};
+ghost use Rattle.nas_qos.specs.Operations.{is_directed};
+ghost use Rattle.nas_qos.specs.Ranges.{are_filters_of, is_filter_of, is_whole};
 ghost use Rattle.nas_qos.specs.Reads.{Finds};
 
 use crate::part::read_parts;
@@ -9,6 +11,9 @@ use crate::Parts;
 use nas_base::Memory;
 use std::alloc::Global;
 use std::marker::Model;
+
+// The code of the operation that names filters by their identifiers alone.
+const DELETE_FILTERS: u8 = 5;
 
 /// A packet filter: an identifier of 0 to 15, a direction (1 down, 2 up, 3 both) and at least one component (TS 24.501 clause
 /// 9.11.4.13). Where an operation only names a filter its direction is 0, and it has no component.
@@ -78,4 +83,88 @@ impl Filters {
     {
         self.items.as_slice()
     }
+}
+
+// Whether one of the filters has this identifier.
+pub(crate) fn names(id: u8, filters: &[Filter]) -> bool
+    ensures { result ≡ names id filters.now }
+{
+    filters.iter().any(|filter| filter.id == id)
+}
+
+// Whether no identifier occurs twice.
+fn ids_differ(filters: &[Filter]) -> bool
+    ensures { result ≡ ids_differ filters.now }
+{
+    match filters {
+        [] => true,
+        [filter, rest @ ..] => !names(filter.id, rest) && ids_differ(rest),
+    }
+}
+
+// How many octets the filter that stands first has.
+fn filter_size(code: u8, octets: &[u8]) -> usize
+    ensures { result ≡ filter_size code octets.now }
+{
+    match octets {
+        _ if code == DELETE_FILTERS => 1,
+        [_, size, ..] => 2 + *size as usize,
+        _ => 2,
+    }
+}
+
+// The filter of this first octet and these contents.
+fn read_whole(alloc: Global, first: u8, contents: &[u8]) -> Result<Filter, Unread>
+    requires { length contents.now ≤ 255 }
+    ensures { Finds (is_whole contents.now) result (whole_filter first contents.now) }
+{
+    let direction = first / 16 % 4;
+    if direction == 0 || contents.is_empty() {
+        return Err(Unread::Wrong);
+    }
+    let parts = read_parts(alloc, contents)?;
+    Ok(Filter {
+        id: first % 16,
+        direction,
+        parts,
+    })
+}
+
+// The filter that stands first in an operation with this code.
+fn first_filter(alloc: Global, code: u8, octets: &[u8]) -> Result<Filter, Unread>
+    ensures { Finds (is_filter_of code octets.now) result (first_filter code octets.now) }
+{
+    if octets.len() < filter_size(code, octets) {
+        return Err(Unread::Wrong);
+    }
+    if code == DELETE_FILTERS {
+        return Ok(Filter {
+            id: octets[0] % 16,
+            direction: 0,
+            parts: Parts::new(alloc),
+        });
+    }
+    let size = octets[1] as usize;
+    read_whole(alloc, octets[0], octets.split_at(2).1.split_at(size).0)
+}
+
+// The first so many filters of an operation with this code, and how many octets they have.
+pub(crate) fn read_filters(alloc: Global, number: u8, code: u8, octets: &[u8]) -> Result<(Filters, usize), Unread>
+    ensures { Finds (are_filters_of number code octets.now) result (differing (filters_in number code octets.now)) }
+{
+    let mut items = Vec::new(alloc);
+    let mut size = 0;
+    for _done in 0..number {
+        let rest = octets.split_at(size).1;
+        let filter = first_filter(alloc, code, rest)?;
+        size += filter_size(code, rest);
+        match items.push(filter) {
+            Ok(()) => {}
+            Err(_) => return Err(Unread::Memory),
+        }
+    }
+    if !ids_differ(items.as_slice()) {
+        return Err(Unread::Wrong);
+    }
+    Ok((Filters { items }, size))
 }

@@ -7,6 +7,7 @@ mod filter;
 
 mod operation;
 mod part;
+mod reading;
 
 mod refusals;
 mod rule;
@@ -14,6 +15,7 @@ mod rule;
 
 pub use crate::filter::{Filter, Filters};
 pub use crate::operation::{RuleOp, RuleOps};
+pub use crate::reading::read_ops;
 pub use crate::part::{Part, Parts};
 pub use crate::refusals::{ApplyRefusal, OpsRefusal, QosFault};
 pub use crate::rule::{Rule, Rules};

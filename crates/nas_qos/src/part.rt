@@ -1,6 +1,6 @@
 //! The components of packet filters.
-ghost use Rattle.std.specs.Prelude.{◌≡◌, ◌≤◌, [], length, take, true, IfOk, IfSome};
-ghost use Rattle.nas_qos.specs.Parts.{first_part, is_part, is_parts, part_of, part_size, parts_in, value_size};
+ghost use Rattle.std.specs.Prelude.{◌≡◌, ◌≤◌, [], length, take, true, nat_eq, ◌&&◌, IfOk, IfSome};
+ghost use Rattle.nas_qos.specs.Parts.{first_part, is_part, is_parts, part_of, part_size, parts_in, parts_octets, value_size};
 ghost use Rattle.nas_qos.specs.Reads.{Finds};
 
 use crate::refusals::Unread;
@@ -159,7 +159,7 @@ fn part_size(octets: &[u8]) -> usize
 // The components that are the contents of a filter.
 pub(crate) fn read_parts(alloc: Global, octets: &[u8]) -> Result<Parts, Unread>
     requires { length octets.now ≤ 255 }
-    ensures { Finds is_parts result (parts_in octets.now) }
+    ensures { Finds (λ parts. is_parts parts && nat_eq (length (parts_octets parts)) (length octets.now)) result (parts_in octets.now) }
 {
     let mut items = Vec::new(alloc);
     let mut rest = octets;
