@@ -1,4 +1,5 @@
 pub mod FilterReading
 pub mod OperationReading
 pub mod PartLaws
+pub mod RoomLaws
 pub mod TurnsReading

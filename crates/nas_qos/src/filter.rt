@@ -13,7 +13,7 @@ use std::alloc::Global;
 use std::marker::Model;
 
 // The code of the operation that names filters by their identifiers alone.
-const DELETE_FILTERS: u8 = 5;
+pub(crate) const DELETE_FILTERS: u8 = 5;
 
 /// A packet filter: an identifier of 0 to 15, a direction (1 down, 2 up, 3 both) and at least one component (TS 24.501 clause
 /// 9.11.4.13). Where an operation only names a filter its direction is 0, and it has no component.

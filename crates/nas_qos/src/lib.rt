@@ -11,6 +11,7 @@ mod reading;
 
 mod refusals;
 mod rule;
+mod writing;
 
 
 pub use crate::filter::{Filter, Filters};
@@ -19,3 +20,4 @@ pub use crate::reading::read_ops;
 pub use crate::part::{Part, Parts};
 pub use crate::refusals::{ApplyRefusal, OpsRefusal, QosFault};
 pub use crate::rule::{Rule, Rules};
+pub use crate::writing::write_ops;
