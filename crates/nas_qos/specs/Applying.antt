@@ -52,20 +52,20 @@ abbrev pub sets_default : Operation → QosRule → Bool
 sets_default op old = op.default && not old.default
 
 -- add of a filter that is there
-abbrev pub adds_there : Operation → QosRule → Bool
-adds_there op old = op.code == 3 && list_any (λ f. names f.id old.filters) op.filters
+abbrev pub adds_there : Operation → List PacketFilter → Bool
+adds_there op filters = op.code == 3 && list_any (λ f. names f.id filters) op.filters
 
 -- delete of a filter that isn't there
-abbrev pub deletes_missing : Operation → QosRule → Bool
-deletes_missing op old = op.code == 5 && list_any (λ f. not (names f.id old.filters)) op.filters
+abbrev pub deletes_missing : Operation → List PacketFilter → Bool
+deletes_missing op filters = op.code == 5 && list_any (λ f. not (names f.id filters)) op.filters
 
 -- the filters that are left where some are deleted
 abbrev pub remaining : List PacketFilter → List PacketFilter → List PacketFilter
 remaining gone filters = filter (λ f. not (names f.id gone)) filters
 
 -- a rule left without filters
-abbrev pub leaves_none : Operation → QosRule → Bool
-leaves_none op old = op.code == 5 && nat_eq (length (remaining op.filters old.filters)) 0
+abbrev pub leaves_none : Operation → List PacketFilter → Bool
+leaves_none op filters = op.code == 5 && nat_eq (length (remaining op.filters filters)) 0
 
 -- in operation 2 the tail is passed over
 abbrev pub takes_precedence : Operation → List QosRule → Bool
@@ -79,8 +79,8 @@ wrong_create op rules =
 abbrev pub wrong_change : Operation → List QosRule → Option QosRule → Bool
 wrong_change op rules None = true
 wrong_change op rules (Some old) =
-    deletes_default op old || sets_default op old || adds_there op old || deletes_missing op old || leaves_none op old
-    || takes_precedence op rules
+    deletes_default op old || sets_default op old || adds_there op old.filters || deletes_missing op old.filters
+    || leaves_none op old.filters || takes_precedence op rules
 
 abbrev pub is_wrong : Operation → List QosRule → Bool
 is_wrong op rules = if op.code == 1 then wrong_create op rules else wrong_change op rules (found op.id rules)
