@@ -3,6 +3,7 @@ use Rattle.std.proofs.Common.{◌≡◌, ◌≤◌, ◌+◌, ℕ, Bool, true, fa
 use Rattle.std.specs.List.{filter, list_all, list_any}
 use Rattle.std.proofs.lemmas.Bool.Decides.{nat_tests}
 use Rattle.std.proofs.lemmas.Grind.{common_steps}
+use Rattle.nas_qos.specs.Applying.{remaining}
 use Rattle.nas_qos.specs.Filters.{PacketFilter, ids_differ, names}
 
 none_names : (one : PacketFilter) (there more : List PacketFilter) → list_any (λ f. names f.id (one ∷ there)) more ≡ false
@@ -41,3 +42,12 @@ length_filtered Q (f ∷ filters) = go (Q f) (length_filtered Q filters) where
   go : (b : Bool) → length (filter Q filters) ≤ length filters → length (cond b (f ∷ filter Q filters) (filter Q filters)) ≤ length (f ∷ filters)
   go true rest = omega (arith, rest)
   go false rest = omega (arith, rest)
+
+-- no filter is left exactly where each is deleted
+pub none_left : (gone filters : List PacketFilter) → nat_eq (length (remaining gone filters)) 0 ≡ list_all (λ f. names f.id gone) filters
+none_left gone [] = refl
+none_left gone (f ∷ filters) = go (names f.id gone) (none_left gone filters) where
+  go : (b : Bool) → nat_eq (length (remaining gone filters)) 0 ≡ list_all (λ g. names g.id gone) filters
+      → nat_eq (length (cond (not b) (f ∷ remaining gone filters) (remaining gone filters))) 0 ≡ (b && list_all (λ g. names g.id gone) filters)
+  go true rest = rest
+  go false rest = grind (arith, nat_tests)

@@ -1,8 +1,12 @@
+pub mod ApplyLaws
 pub mod FilterLists
 pub mod FilterReading
+pub mod Keeping
 pub mod OperationReading
 pub mod PartLaws
+pub mod PlaceLaws
 pub mod Precedences
 pub mod RoomLaws
+pub mod RuleFacts
 pub mod RuleLists
 pub mod TurnsReading

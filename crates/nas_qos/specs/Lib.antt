@@ -2,6 +2,7 @@ pub mod Applying
 pub mod Filters
 pub mod Operations
 pub mod Parts
+pub mod Places
 pub mod Ranges
 pub mod Reads
 pub mod Rules

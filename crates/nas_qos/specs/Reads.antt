@@ -1,6 +1,6 @@
 -- What the calls answer. Want of memory may come in any place.
 use Rattle.std.specs.Prelude.{◌≡◌, ℕ, Bool, true, List, Option, Some, None, Result, Ok, Err}
-use Rattle.nas_qos.specs.Applying.{applied}
+use Rattle.nas_qos.specs.Applying.{applied, within_limits}
 use Rattle.nas_qos.specs.Operations.{Operation}
 use Rattle.nas_qos.specs.Rules.{QosRule}
 use Rattle.nas_qos.specs.declared.refusals.ApplyRefusal.{ApplyRefusal}
@@ -36,3 +36,9 @@ abbrev pub Changes : {T : Type 0} → Result T ApplyRefusal → List QosRule →
 Changes (Ok _) old new op = applied op old ≡ Ok new
 Changes (Err (Qos fault)) old new op = applied op old ≡ Err fault
 Changes (Err NoMemory) old new op = Unit {0}
+
+-- rules are within their limits, or the fault
+abbrev pub KeepsLimits : {T : Type 0} → Result T ApplyRefusal → List QosRule → Type 0
+KeepsLimits (Ok _) rules = within_limits rules ≡ Ok rules
+KeepsLimits (Err (Qos fault)) rules = within_limits rules ≡ Err fault
+KeepsLimits (Err NoMemory) rules = Unit {0}

@@ -1,5 +1,7 @@
 //! Packet filters.
-ghost use Rattle.std.specs.Prelude.{◌≡◌, ◌≤◌, ◌<◌, [], length, true, nat_eq, nat_le, ◌&&◌, IfOk};
+ghost use Rattle.std.specs.Prelude.{◌≡◌, ◌≤◌, ◌<◌, [], ◌++◌, length, true, false, nat_eq, nat_le, ◌&&◌, IfOk, OnOk};
+ghost use Rattle.std.specs.List.{list_any};
+ghost use Rattle.nas_qos.specs.Applying.{remaining};
 ghost use Rattle.nas_qos.specs.Filters.{differing, filter_octets, filter_size, filters_in, first_filter, ids_differ, is_filter, is_filters, names, whole_filter};
 ghost use Rattle.nas_qos.specs.Operations.{is_directed};
 ghost use Rattle.nas_qos.specs.Ranges.{are_filters_of, is_filter_of, is_whole};
@@ -76,6 +78,15 @@ impl Filters {
         }
     }
 
+    /// Equal filters.
+    pub fn copy(&self, alloc: Global) -> Result<Filters, Memory>
+        ensures { IfOk result (λ filters. filters ≡ self.now) }
+    {
+        let mut items = Vec::new(alloc);
+        append(alloc, self.as_slice(), &mut items)?;
+        Ok(Filters { items })
+    }
+
     /// The filters in order.
     pub fn as_slice(&self) -> &[Filter]
         ensures value { result.now ≡ self.now }
@@ -83,6 +94,50 @@ impl Filters {
     {
         self.items.as_slice()
     }
+}
+
+// Appends copies of the filters. After want of memory the list is of no use.
+fn append(alloc: Global, filters: &[Filter], items: &mut Vec<Filter>) -> Result<(), Memory>
+    ensures { OnOk result (items.new.items ≡ items.old.items ++ filters.now) }
+{
+    for filter in filters {
+        let copy = filter.copy(alloc)?;
+        match items.push(copy) {
+            Ok(()) => {}
+            Err(_) => return Err(Memory),
+        }
+    }
+    Ok(())
+}
+
+// Filters and others behind them, which have other identifiers.
+#[tactic(auto, using(crate::proofs::RuleFacts::joined_filters))]
+pub(crate) fn joined(alloc: Global, there: &Filters, more: &Filters) -> Result<Filters, Memory>
+    requires { list_any (λ f. names f.id there.now) more.now ≡ false }
+    ensures { IfOk result (λ filters. filters ≡ there.now ++ more.now) }
+{
+    let mut items = Vec::new(alloc);
+    append(alloc, there.as_slice(), &mut items)?;
+    append(alloc, more.as_slice(), &mut items)?;
+    Ok(Filters { items })
+}
+
+// The filters but those that have an identifier of these.
+#[tactic(auto, using(crate::proofs::RuleFacts::left_filters))]
+pub(crate) fn remaining(alloc: Global, gone: &[Filter], filters: &Filters) -> Result<Filters, Memory>
+    ensures { IfOk result (λ left. left ≡ remaining gone.now filters.now) }
+{
+    let mut items = Vec::new(alloc);
+    for filter in filters.as_slice() {
+        if !names(filter.id, gone) {
+            let copy = filter.copy(alloc)?;
+            match items.push(copy) {
+                Ok(()) => {}
+                Err(_) => return Err(Memory),
+            }
+        }
+    }
+    Ok(Filters { items })
 }
 
 // Whether one of the filters has this identifier.

@@ -3,6 +3,7 @@
 #![tactic(auto)]
 
 
+mod applying;
 mod filter;
 
 mod operation;
@@ -14,6 +15,7 @@ mod rule;
 mod writing;
 
 
+pub use crate::applying::apply;
 pub use crate::filter::{Filter, Filters};
 pub use crate::operation::{RuleOp, RuleOps};
 pub use crate::reading::read_ops;

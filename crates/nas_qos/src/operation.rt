@@ -1,8 +1,10 @@
 //! Operations on QoS rules.
-ghost use Rattle.std.specs.Prelude.{◌≡◌, true};
+ghost use Rattle.std.specs.Prelude.{◌≡◌, true, IfOk};
 ghost use Rattle.nas_qos.specs.Operations.{is_ops};
 
 use crate::Filters;
+use nas_base::Memory;
+use std::alloc::Global;
 use std::marker::Model;
 
 /// An operation on the rule of an identifier other than 0 (TS 24.501 clause 9.11.4.13). The code is 1 to create the rule, 2 to delete
@@ -45,7 +47,38 @@ impl Model for RuleOps {
     ghost invariant = { λ o. is_ops o.items.items ≡ true };
 }
 
+impl RuleOp {
+    /// An equal operation.
+    pub fn copy(&self, alloc: Global) -> Result<RuleOp, Memory>
+        ensures { IfOk result (λ op. op ≡ self.now) }
+    {
+        let filters = self.filters.copy(alloc)?;
+        Ok(RuleOp {
+            id: self.id,
+            code: self.code,
+            default: self.default,
+            filters,
+            tail: self.tail,
+        })
+    }
+}
+
 impl RuleOps {
+    /// Equal operations.
+    pub fn copy(&self, alloc: Global) -> Result<RuleOps, Memory>
+        ensures { IfOk result (λ ops. ops ≡ self.now) }
+    {
+        let mut items = Vec::new(alloc);
+        for op in self.as_slice() {
+            let copy = op.copy(alloc)?;
+            match items.push(copy) {
+                Ok(()) => {}
+                Err(_) => return Err(Memory),
+            }
+        }
+        Ok(RuleOps { items })
+    }
+
     /// The operations in order.
     pub fn as_slice(&self) -> &[RuleOp]
         ensures value { result.now ≡ self.now }

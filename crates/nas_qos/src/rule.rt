@@ -1,8 +1,9 @@
 //! QoS rules.
-ghost use Rattle.std.specs.Prelude.{◌≡◌, []};
+ghost use Rattle.std.specs.Prelude.{◌≡◌, [], IfOk};
 ghost use Rattle.nas_qos.specs.Rules.{IsRules};
 
 use crate::Filters;
+use nas_base::Memory;
 use std::alloc::Global;
 use std::marker::Model;
 
@@ -45,6 +46,22 @@ impl Model for Rules {
     ghost invariant = { λ r. IsRules r.items.items };
 }
 
+impl Rule {
+    /// An equal rule.
+    pub fn copy(&self, alloc: Global) -> Result<Rule, Memory>
+        ensures { IfOk result (λ rule. rule ≡ self.now) }
+    {
+        let filters = self.filters.copy(alloc)?;
+        Ok(Rule {
+            id: self.id,
+            default: self.default,
+            filters,
+            precedence: self.precedence,
+            qfi: self.qfi,
+        })
+    }
+}
+
 impl Rules {
     /// No rule.
     pub fn new(alloc: Global) -> Rules
@@ -55,6 +72,14 @@ impl Rules {
         }
     }
 
+    /// Equal rules.
+    pub fn copy(&self, alloc: Global) -> Result<Rules, Memory>
+        ensures { IfOk result (λ rules. rules ≡ self.now) }
+    {
+        let items = copies(alloc, self.as_slice())?;
+        Ok(Rules { items })
+    }
+
     /// The rules in order.
     pub fn as_slice(&self) -> &[Rule]
         ensures value { result.now ≡ self.now }
@@ -62,4 +87,19 @@ impl Rules {
     {
         self.items.as_slice()
     }
+}
+
+// Copies of the rules.
+pub(crate) fn copies(alloc: Global, rules: &[Rule]) -> Result<Vec<Rule>, Memory>
+    ensures { IfOk result (λ items. items.items ≡ rules.now) }
+{
+    let mut items = Vec::new(alloc);
+    for rule in rules {
+        let copy = rule.copy(alloc)?;
+        match items.push(copy) {
+            Ok(()) => {}
+            Err(_) => return Err(Memory),
+        }
+    }
+    Ok(items)
 }

@@ -1,8 +1,7 @@
-use Rattle.std.proofs.Common.{◌≡◌, ◌<◌, ◌≤◌, Some, true, length, sym, ◌∙◌, arith}
-use Rattle.std.specs.List.{list_all}
+use Rattle.std.proofs.Common.{◌≡◌, ◌<◌, Some, length, sym, ◌∙◌, arith}
 use Rattle.std.proofs.lemmas.Bool.Decides.{nat_tests}
 use Rattle.std.proofs.lemmas.Grind.{common_steps}
-use Rattle.nas_qos.specs.Parts.{first_part, is_part, part_octets, part_size}
+use Rattle.nas_qos.specs.Parts.{first_part, part_octets, part_size}
 use Rattle.nas_qos.proofs.PartLaws.{first_sized}
 use Rattle.nas_qos.proofs.TurnsReading.{next_read}
 use Rattle.nas_qos.proofs.part.read_parts.Goals as goal
