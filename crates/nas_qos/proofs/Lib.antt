@@ -9,4 +9,5 @@ pub mod Precedences
 pub mod RoomLaws
 pub mod RuleFacts
 pub mod RuleLists
+pub mod StayLaws
 pub mod TurnsReading

@@ -1,5 +1,6 @@
 pub mod Applying
 pub mod Filters
+pub mod Laws
 pub mod Operations
 pub mod Parts
 pub mod Places

@@ -6,6 +6,7 @@
 mod applying;
 mod filter;
 
+mod laws;
 mod operation;
 mod part;
 mod reading;
@@ -17,6 +18,7 @@ mod writing;
 
 pub use crate::applying::apply;
 pub use crate::filter::{Filter, Filters};
+pub use crate::laws::{ops_are_read_back, other_rules_stay, unnamed_rules_stay};
 pub use crate::operation::{RuleOp, RuleOps};
 pub use crate::reading::read_ops;
 pub use crate::part::{Part, Parts};
