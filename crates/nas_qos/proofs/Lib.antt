@@ -1,13 +1,17 @@
 pub mod ApplyLaws
 pub mod FilterLists
 pub mod FilterReading
+pub mod FiltersBack
 pub mod Keeping
 pub mod OperationReading
+pub mod OperationsBack
 pub mod PartLaws
 pub mod PlaceLaws
+pub mod PartsBack
 pub mod Precedences
 pub mod RoomLaws
 pub mod RuleFacts
 pub mod RuleLists
 pub mod StayLaws
+pub mod TurnsBack
 pub mod TurnsReading
