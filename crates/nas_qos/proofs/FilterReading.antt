@@ -35,7 +35,7 @@ pub next_filter : (number code : ℕ) (octets : List ℕ) (i : ℕ) (filters : L
     → first_filter code (drop size octets) ≡ Some filter
     → filters_before filters size (filters_in (number - i) code (drop size octets)) ≡ filters_in number code octets
     → filters_before (filters ++ filter ∷ []) (size + filter_size code (drop size octets))
-        (filters_in (number - (i + 1)) code (drop (size + filter_size code (drop size octets)) octets)) ≡ filters_in number code octets
+    (filters_in (number - (i + 1)) code (drop (size + filter_size code (drop size octets)) octets)) ≡ filters_in number code octets
 next_filter number code octets i filters size filter more read told =
     let n : ℕ = filter_size code (drop size octets) in
     let less : number - i ≡ suc (number - (i + 1)) = omega arith in

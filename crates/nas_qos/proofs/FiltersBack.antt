@@ -90,11 +90,11 @@ filter_back code filter rest good directed = record { found = found_is (nat_eq c
 
   found_is : (b : Bool) → cond b (nat_eq filter.direction 0) (nat_lt 0 filter.direction) ≡ true
       → cond (nat_lt (length (cond b (filter.id ∷ []) (octet ∷ length octets ∷ octets) ++ rest)) (cond b 1 (2 + slice_index (cond b (filter.id ∷ []) (octet ∷ length octets ∷ octets) ++ rest) 1)))
-        None
-        (cond b (Some (record { id = slice_index (cond b (filter.id ∷ []) (octet ∷ length octets ∷ octets) ++ rest) 0 % 16; direction = 0; parts = [] }))
-          (whole_filter (slice_index (cond b (filter.id ∷ []) (octet ∷ length octets ∷ octets) ++ rest) 0)
-            (take (slice_index (cond b (filter.id ∷ []) (octet ∷ length octets ∷ octets) ++ rest) 1) (drop 2 (cond b (filter.id ∷ []) (octet ∷ length octets ∷ octets) ++ rest)))))
-        ≡ Some filter
+      None
+      (cond b (Some (record { id = slice_index (cond b (filter.id ∷ []) (octet ∷ length octets ∷ octets) ++ rest) 0 % 16; direction = 0; parts = [] }))
+      (whole_filter (slice_index (cond b (filter.id ∷ []) (octet ∷ length octets ∷ octets) ++ rest) 0)
+      (take (slice_index (cond b (filter.id ∷ []) (octet ∷ length octets ∷ octets) ++ rest) 1) (drop 2 (cond b (filter.id ∷ []) (octet ∷ length octets ∷ octets) ++ rest)))))
+      ≡ Some filter
   found_is true none =
       ap (λ (b : Bool). cond b None (Some (record { id = filter.id % 16; direction = 0; parts = [] }))) (enough 1 (filter.id ∷ rest) (omega arith))
       ∙ named_found filter rest facts none

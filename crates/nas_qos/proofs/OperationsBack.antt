@@ -92,10 +92,10 @@ operation_back at op rest whole fits =
     let front : take (length inner) (inner ++ rest) ≡ inner = grind (arith, common_steps) in
     record {
       found = ap (λ (b : Bool). cond b (operation_in op.id (take (operation_size (operation_octets op ++ rest) - 3) (drop 3 (operation_octets op ++ rest)))) None) right
-      ∙ ap (λ (n : ℕ). operation_in op.id (take n (drop 3 (operation_octets op ++ rest)))) less
-      ∙ ap (λ (os : List ℕ). operation_in op.id (take (length inner) os)) behind
-      ∙ ap (operation_in op.id) front
-      ∙ contents_back op facts;
+          ∙ ap (λ (n : ℕ). operation_in op.id (take n (drop 3 (operation_octets op ++ rest)))) less
+          ∙ ap (λ (os : List ℕ). operation_in op.id (take (length inner) os)) behind
+          ∙ ap (operation_in op.id) front
+          ∙ contents_back op facts;
       sized = sized ∙ sym size_is;
     }
 

@@ -10,9 +10,9 @@ part_sized : (kind : ℕ) (octets : List ℕ) (part : Part) → value_size kind 
     → length (part_octets part) ≡ 1 + value_size kind
 part_sized kind octets part fits read =
     go (kind == 0x01) (kind == 0x10) (kind == 0x11) (kind == 0x30) (kind == 0x40) (kind == 0x50) (kind == 0x41) (kind == 0x51) refl refl refl refl refl refl refl refl where
-  go : (a b c d e f g h : Bool) → (kind == 0x01) ≡ a → (kind == 0x10) ≡ b → (kind == 0x11) ≡ c → (kind == 0x30) ≡ d → (kind == 0x40) ≡ e
-      → (kind == 0x50) ≡ f → (kind == 0x41) ≡ g → (kind == 0x51) ≡ h → length (part_octets part) ≡ 1 + value_size kind
-  go a b c d e f g h is_a is_b is_c is_d is_e is_f is_g is_h = grind (arith, nat_tests, common_steps, read, fits)
+      go : (a b c d e f g h : Bool) → (kind == 0x01) ≡ a → (kind == 0x10) ≡ b → (kind == 0x11) ≡ c → (kind == 0x30) ≡ d → (kind == 0x40) ≡ e
+          → (kind == 0x50) ≡ f → (kind == 0x41) ≡ g → (kind == 0x51) ≡ h → length (part_octets part) ≡ 1 + value_size kind
+      go a b c d e f g h is_a is_b is_c is_d is_e is_f is_g is_h = grind (arith, nat_tests, common_steps, read, fits)
 
 pub first_sized : (octets : List ℕ) (part : Part) → first_part octets ≡ Some part
     → (length (part_octets part) ≡ part_size octets) × (part_size octets ≤ length octets)

@@ -39,7 +39,7 @@ nothing_read first size spelled octets =
       enough = omega arith;
       sized = omega arith;
       told = all_before-none (in_turn first size (length octets) (length octets - length octets) octets)
-      ∙ ap (λ at. in_turn first size (length octets) at octets) start;
+          ∙ ap (λ at. in_turn first size (length octets) at octets) start;
     }
 
 -- one item more
@@ -68,9 +68,9 @@ next_read {A} first size spelled octets items (o ∷ os) item so some read spell
         enough = omega (arith, left, enough, moves);
         sized = omega (arith, spelt, left, so.sized, spells);
         told = all_before-one items item (length octets - length (o ∷ os)) (more (length octets - length (drop (size (o ∷ os)) (o ∷ os))))
-        ∙ ap (λ at. all_before items (before (length octets - length (o ∷ os)) (Some item) (more at))) place
-        ∙ ap (λ x. all_before items (before (length octets - length (o ∷ os)) x (more (length octets - length (o ∷ os) + size (o ∷ os))))) (sym read)
-        ∙ told;
+            ∙ ap (λ at. all_before items (before (length octets - length (o ∷ os)) (Some item) (more at))) place
+            ∙ ap (λ x. all_before items (before (length octets - length (o ∷ os)) x (more (length octets - length (o ∷ os) + size (o ∷ os))))) (sym read)
+            ∙ told;
       }
 
 -- an item that is wrong

@@ -70,11 +70,15 @@ fn check_limits(rules: &[Rule]) -> Result<(), ApplyRefusal>
 {
     let count = rules.len();
     if count > MOST_RULES {
-        return Err(ApplyRefusal::Qos(QosFault::TooMany { count: count as u16 }));
+        return Err(ApplyRefusal::Qos(QosFault::TooMany {
+            count: count as u16,
+        }));
     }
     let filters = filters_of(rules);
     if filters > MOST_FILTERS {
-        return Err(ApplyRefusal::Qos(QosFault::TooMany { count: filters as u16 }));
+        return Err(ApplyRefusal::Qos(QosFault::TooMany {
+            count: filters as u16,
+        }));
     }
     Ok(())
 }

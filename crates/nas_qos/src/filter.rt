@@ -7,9 +7,9 @@ ghost use Rattle.nas_qos.specs.Operations.{is_directed};
 ghost use Rattle.nas_qos.specs.Ranges.{are_filters_of, is_filter_of, is_whole};
 ghost use Rattle.nas_qos.specs.Reads.{Finds};
 
+use crate::Parts;
 use crate::part::read_parts;
 use crate::refusals::Unread;
-use crate::Parts;
 use nas_base::Memory;
 use std::alloc::Global;
 use std::marker::Model;
@@ -124,7 +124,11 @@ pub(crate) fn joined(alloc: Global, there: &Filters, more: &Filters) -> Result<F
 
 // The filters but those that have an identifier of these.
 #[tactic(auto, using(crate::proofs::RuleFacts::left_filters))]
-pub(crate) fn remaining(alloc: Global, gone: &[Filter], filters: &Filters) -> Result<Filters, Memory>
+pub(crate) fn remaining(
+    alloc: Global,
+    gone: &[Filter],
+    filters: &Filters,
+) -> Result<Filters, Memory>
     ensures { IfOk result (λ left. left ≡ remaining gone.now filters.now) }
 {
     let mut items = Vec::new(alloc);
@@ -204,7 +208,12 @@ fn first_filter(alloc: Global, code: u8, octets: &[u8]) -> Result<Filter, Unread
 }
 
 // The first so many filters of an operation with this code, and how many octets they have.
-pub(crate) fn read_filters(alloc: Global, number: u8, code: u8, octets: &[u8]) -> Result<(Filters, usize), Unread>
+pub(crate) fn read_filters(
+    alloc: Global,
+    number: u8,
+    code: u8,
+    octets: &[u8],
+) -> Result<(Filters, usize), Unread>
     ensures { Finds (are_filters_of number code octets.now) result (differing (filters_in number code octets.now)) }
 {
     let mut items = Vec::new(alloc);
