@@ -12,6 +12,7 @@ mod frame_calls;
 mod key_calls;
 mod message_calls;
 mod milenage_calls;
+mod qos_calls;
 mod words;
 
 use std::io::{self, BufRead, BufReader, BufWriter, Write};
