@@ -107,3 +107,8 @@ ops_back ops whole =
     let facts = both (list_all is_operation ops) (nat_le (length (ops_octets ops)) 2048) whole in
     let fits : length (ops_octets ops) ≤ 2048 = grind (arith, nat_tests, facts.1) in
     all_back first_operation operation_size operation_octets is_operation 2048 operation_back some_octets ops (length (ops_octets ops)) 0 facts.0 (omega arith) (omega (arith, fits))
+
+-- operations that are written alike are the same
+pub same_ops : (ops others : List Operation) → is_ops ops ≡ true → is_ops others ≡ true → ops_octets ops ≡ ops_octets others → ops ≡ others
+same_ops ops others whole right same =
+    let one = sym (ops_back ops whole) ∙ ap ops_in same ∙ ops_back others right in cc

@@ -109,3 +109,8 @@ parts_back parts whole =
     ap result_ok
     (all_back (λ at os. first_part os) part_size part_octets is_part (length (parts_octets parts))
     (λ at part rest good within. record { found = part_found part rest good; sized = part_sized part rest good }) part_some parts (length (parts_octets parts)) 0 facts.0 (omega arith) (omega arith))
+
+-- components that are written alike are the same
+pub same_parts : (parts others : List Part) → is_parts parts ≡ true → is_parts others ≡ true → parts_octets parts ≡ parts_octets others → parts ≡ others
+same_parts parts others whole right same =
+    let one : Some parts ≡ Some others = sym (parts_back parts whole) ∙ ap parts_in same ∙ parts_back others right in cc

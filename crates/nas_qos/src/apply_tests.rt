@@ -107,6 +107,8 @@ fn applies_operations(rt: HostRuntime) -> Result<(), Fail> {
     let alloc = rt.alloc();
     for (octets, there) in table {
         let new = applied(alloc, &both(alloc)?, octets)?;
+        assert!(rt; new.equals(&new.copy(alloc)?));
+        assert!(rt; !new.equals(&Rules::new(alloc)));
         let text = shown(alloc, &new)?;
         assert_eq!(rt; text.as_slice(), there);
     }

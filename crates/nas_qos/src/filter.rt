@@ -1,5 +1,5 @@
 //! Packet filters.
-ghost use Rattle.std.specs.Prelude.{◌≡◌, ◌≤◌, ◌<◌, [], ◌++◌, length, true, false, nat_eq, nat_le, ◌&&◌, IfOk, OnOk};
+ghost use Rattle.std.specs.Prelude.{◌≡◌, ◌≤◌, ◌<◌, [], ◌++◌, length, true, false, nat_eq, nat_le, ◌&&◌, ◌↔◌, IsTrue, IfOk, OnOk};
 ghost use Rattle.std.specs.List.{list_any};
 ghost use Rattle.nas_qos.specs.Applying.{remaining};
 ghost use Rattle.nas_qos.specs.Filters.{differing, filter_octets, filter_size, filters_in, first_filter, ids_differ, is_filter, is_filters, names, whole_filter};
@@ -55,6 +55,13 @@ impl Model for Filters {
 }
 
 impl Filter {
+    /// Whether this is the same filter.
+    pub fn equals(&self, other: &Filter) -> bool
+        ensures { IsTrue result ↔ (self.now ≡ other.now) }
+    {
+        self.id == other.id && self.direction == other.direction && self.parts.equals(&other.parts)
+    }
+
     /// An equal filter.
     pub fn copy(&self, alloc: Global) -> Result<Filter, Memory>
         ensures { IfOk result (λ filter. filter ≡ self.now) }
@@ -78,6 +85,13 @@ impl Filters {
         }
     }
 
+    /// Whether these are the same filters in the same order.
+    pub fn equals(&self, other: &Filters) -> bool
+        ensures { IsTrue result ↔ (self.now ≡ other.now) }
+    {
+        same(self.as_slice(), other.as_slice())
+    }
+
     /// Equal filters.
     pub fn copy(&self, alloc: Global) -> Result<Filters, Memory>
         ensures { IfOk result (λ filters. filters ≡ self.now) }
@@ -93,6 +107,17 @@ impl Filters {
         ensures filters { is_filters result.now ≡ true }
     {
         self.items.as_slice()
+    }
+}
+
+// Whether these are the same filters in the same order.
+fn same(filters: &[Filter], others: &[Filter]) -> bool
+    ensures { IsTrue result ↔ (filters.now ≡ others.now) }
+{
+    match (filters, others) {
+        ([], []) => true,
+        ([filter, rest @ ..], [other, more @ ..]) => filter.equals(other) && same(rest, more),
+        _ => false,
     }
 }
 

@@ -1,8 +1,9 @@
 //! Operations on QoS rules.
-ghost use Rattle.std.specs.Prelude.{◌≡◌, true, IfOk};
+ghost use Rattle.std.specs.Prelude.{◌≡◌, true, ◌↔◌, IsTrue, IfOk};
 ghost use Rattle.nas_qos.specs.Operations.{is_ops};
 
 use crate::Filters;
+use crate::writing::{ops_octets, same_octets};
 use nas_base::Memory;
 use std::alloc::Global;
 use std::marker::Model;
@@ -64,6 +65,15 @@ impl RuleOp {
 }
 
 impl RuleOps {
+    /// Whether these are the same operations in the same order.
+    pub fn equals(&self, other: &RuleOps) -> bool
+        ensures { IsTrue result ↔ (self.now ≡ other.now) }
+    {
+        let _items = &self.items;
+        let _others = &other.items;
+        same_octets(ops_octets(self).as_slice(), ops_octets(other).as_slice())
+    }
+
     /// Equal operations.
     pub fn copy(&self, alloc: Global) -> Result<RuleOps, Memory>
         ensures { IfOk result (λ ops. ops ≡ self.now) }

@@ -1,9 +1,10 @@
 //! The components of packet filters.
-ghost use Rattle.std.specs.Prelude.{◌≡◌, ◌≤◌, [], length, take, true, nat_eq, ◌&&◌, IfOk, IfSome};
+ghost use Rattle.std.specs.Prelude.{◌≡◌, ◌≤◌, [], length, take, true, nat_eq, ◌&&◌, ◌↔◌, IsTrue, IfOk, IfSome};
 ghost use Rattle.nas_qos.specs.Parts.{first_part, is_part, is_parts, part_of, part_size, parts_in, parts_octets, value_size};
 ghost use Rattle.nas_qos.specs.Reads.{Finds};
 
 use crate::refusals::Unread;
+use crate::writing::{parts_octets, same_octets};
 use byteorder::{BigEndian, ByteOrder};
 use nas_base::Memory;
 use std::alloc::Global;
@@ -65,6 +66,18 @@ impl Parts {
         ensures parts { is_parts result.now ≡ true }
     {
         self.items.as_slice()
+    }
+
+    /// Whether these are the same components in the same order.
+    pub fn equals(&self, other: &Parts) -> bool
+        ensures { IsTrue result ↔ (self.now ≡ other.now) }
+    {
+        let _items = &self.items;
+        let _others = &other.items;
+        same_octets(
+            parts_octets(self).as_slice(),
+            parts_octets(other).as_slice(),
+        )
     }
 
     /// Equal components.

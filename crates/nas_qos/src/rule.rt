@@ -1,5 +1,5 @@
 //! QoS rules.
-ghost use Rattle.std.specs.Prelude.{◌≡◌, [], IfOk};
+ghost use Rattle.std.specs.Prelude.{◌≡◌, [], ◌↔◌, IsTrue, IfOk};
 ghost use Rattle.nas_qos.specs.Rules.{IsRules};
 
 use crate::Filters;
@@ -47,6 +47,17 @@ impl Model for Rules {
 }
 
 impl Rule {
+    /// Whether this is the same rule.
+    pub fn equals(&self, other: &Rule) -> bool
+        ensures { IsTrue result ↔ (self.now ≡ other.now) }
+    {
+        self.id == other.id
+            && self.default == other.default
+            && self.filters.equals(&other.filters)
+            && self.precedence == other.precedence
+            && self.qfi == other.qfi
+    }
+
     /// An equal rule.
     pub fn copy(&self, alloc: Global) -> Result<Rule, Memory>
         ensures { IfOk result (λ rule. rule ≡ self.now) }
@@ -72,6 +83,13 @@ impl Rules {
         }
     }
 
+    /// Whether these are the same rules.
+    pub fn equals(&self, other: &Rules) -> bool
+        ensures { IsTrue result ↔ (self.now ≡ other.now) }
+    {
+        same(self.as_slice(), other.as_slice())
+    }
+
     /// Equal rules.
     pub fn copy(&self, alloc: Global) -> Result<Rules, Memory>
         ensures { IfOk result (λ rules. rules ≡ self.now) }
@@ -86,6 +104,17 @@ impl Rules {
         ensures rules { IsRules result.now }
     {
         self.items.as_slice()
+    }
+}
+
+// Whether these are the same rules in the same order.
+fn same(rules: &[Rule], others: &[Rule]) -> bool
+    ensures { IsTrue result ↔ (rules.now ≡ others.now) }
+{
+    match (rules, others) {
+        ([], []) => true,
+        ([rule, rest @ ..], [other, more @ ..]) => rule.equals(other) && same(rest, more),
+        _ => false,
     }
 }
 

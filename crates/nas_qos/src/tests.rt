@@ -54,7 +54,10 @@ fn reads_and_writes(rt: HostRuntime) -> Result<(), Fail> {
         let mut out = Writer::new();
         let list = ops(alloc, octets)?;
         ops_are_read_back(&list);
-        write_ops(&list.copy(alloc)?, &mut out).ok().ok_or("room")?;
+        let copy = list.copy(alloc)?;
+        assert!(rt; list.equals(&copy));
+        assert_eq!(rt; list.equals(&ops(alloc, FIRST)?), octets == FIRST);
+        write_ops(&copy, &mut out).ok().ok_or("room")?;
         assert_eq!(rt; out.octets(), written);
     }
     Ok(())

@@ -1,5 +1,5 @@
 //! Writing lists of operations.
-ghost use Rattle.std.specs.Prelude.{◌≡◌, ◌≤◌, ◌+◌, ◌∷◌, ◌++◌, length};
+ghost use Rattle.std.specs.Prelude.{◌≡◌, ◌≤◌, ◌+◌, ◌∷◌, ◌++◌, ◌↔◌, IsTrue, length};
 ghost use Rattle.byteorder.specs.Endian.{big_bytes};
 ghost use Rattle.nas_base.specs.Writing.{Writes};
 ghost use Rattle.nas_qos.specs.Filters.{filter_octets, filters_octets};
@@ -24,8 +24,15 @@ pub fn write_ops(ops: &RuleOps, out: &mut Writer) -> Result<(), Full>
     out.put(ops_octets(ops).as_slice())
 }
 
+// Whether these are the same octets.
+pub(crate) fn same_octets(octets: &[u8], others: &[u8]) -> bool
+    ensures { IsTrue result ↔ (octets.now ≡ others.now) }
+{
+    octets == others
+}
+
 // What operations are written as.
-fn ops_octets(ops: &RuleOps) -> ArrayVec<u8, 2048>
+pub(crate) fn ops_octets(ops: &RuleOps) -> ArrayVec<u8, 2048>
     ensures { result.items ≡ ops_octets ops.now }
 {
     let mut octets = ArrayVec::new();
@@ -105,7 +112,7 @@ fn put_filter(code: u8, filter: &Filter, out: &mut ArrayVec<u8, 2048>)
 }
 
 // What components are written as.
-fn parts_octets(parts: &Parts) -> ArrayVec<u8, 255>
+pub(crate) fn parts_octets(parts: &Parts) -> ArrayVec<u8, 255>
     ensures { result.items ≡ parts_octets parts.now }
 {
     let mut octets = ArrayVec::new();
