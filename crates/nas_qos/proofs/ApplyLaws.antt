@@ -1,5 +1,5 @@
 -- One operation more of a list.
-use Rattle.std.proofs.Common.{◌≡◌, ◌<◌, ◌+◌, ℕ, suc, List, ◌∷◌, length, drop, drop-cons, add-one, get_or, Result, Ok, Err, sym, ◌∙◌, ap, arith}
+use Rattle.std.proofs.Common.{◌≡◌, ◌<◌, ◌+◌, ℕ, suc, List, ◌∷◌, length, drop, drop-cons, add-one, get_or, Ok, sym, ◌∙◌, ap}
 use Rattle.nas_qos.specs.Applying.{all_applied, applied, next}
 use Rattle.nas_qos.specs.Operations.{Operation}
 use Rattle.nas_qos.specs.Rules.{QosRule}

@@ -1,13 +1,12 @@
 -- An operation that goes with the rules of a session leaves rules of a session, where they are not too many.
-use Rattle.std.proofs.Common.{◌≡◌, ◌<◌, ◌≤◌, ◌+◌, ℕ, Bool, true, false, not, ◌&&◌, ◌||◌, List, [], ◌∷◌, ◌++◌, length, nat_eq, nat_lt, cond, Option, Some, None, Result, Ok, Err, OnOk, sym, ◌∙◌, ap, arith, refl}
-use Rattle.std.specs.List.{list_all, list_any}
+use Rattle.std.proofs.Common.{◌≡◌, ◌≤◌, ◌+◌, ℕ, Bool, true, false, not, ◌&&◌, ◌||◌, List, [], ◌∷◌, length, nat_eq, nat_lt, cond, Option, Some, None, Result, Ok, Err, OnOk, sym, ◌∙◌, ap, arith, refl}
+use Rattle.std.specs.List.{list_any}
 use Rattle.std.proofs.lemmas.Bool.Decides.{nat_tests}
 use Rattle.nas_qos.specs.Applying.{adds_there, changed, changed_rule, created, creates_there, deletes_default, deletes_missing, first_not_default, found, is_taken, is_wrong, leaves_none, new_rule, precedence_in, replaced, second_default, sets_default, takes_precedence, with_changed, without, within_limits, wrong_change, wrong_create}
 use Rattle.nas_qos.specs.Operations.{Operation, is_operation, is_tail}
 use Rattle.nas_qos.specs.Rules.{IsRules, QosRule, defaults_due, defaults_of, filters_of, has_precedence, is_rule}
 use Rattle.nas_qos.specs.Reads.{KeepsLimits}
 use Rattle.nas_qos.specs.declared.refusals.ApplyRefusal.{ApplyRefusal}
-use Rattle.nas_qos.specs.declared.refusals.QosFault.{QosFault}
 use Rattle.nas_qos.specs.declared.refusals.QosFault.TheVariants.{TooMany}
 use Rattle.nas_qos.proofs.Precedences.{differ_created, differ_replaced, differ_without, none_has, others_differ, others_have}
 use Rattle.nas_qos.proofs.RuleFacts.{changed_few, changed_is_rule, few_filters, new_is_rule, op_facts}

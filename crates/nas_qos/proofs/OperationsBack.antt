@@ -1,12 +1,12 @@
 -- Operations that are written are read back.
-use Rattle.std.proofs.Common.{◌≡◌, ◌<◌, ◌≤◌, ◌+◌, ◌-◌, ◌*◌, ◌/◌, ◌%◌, ◌^◌, ◌==◌, ℕ, suc, Bool, true, false, not, ◌&&◌, ◌||◌, List, [], ◌∷◌, ◌++◌, length, take, drop, nat_eq, nat_le, nat_lt, length-append, append_assoc, cond, Option, Some, None, Result, Ok, Err, sym, ◌∙◌, ap, arith, refl}
+use Rattle.std.proofs.Common.{◌≡◌, ◌<◌, ◌≤◌, ◌+◌, ◌-◌, ◌*◌, ◌/◌, ◌%◌, ◌^◌, ℕ, Bool, true, false, not, ◌&&◌, List, ◌++◌, length, take, drop, nat_eq, nat_le, length-append, append_assoc, cond, Option, Some, None, Ok, sym, ◌∙◌, ap, arith, refl}
 use Rattle.std.specs.List.{list_all}
 use Rattle.std.proofs.lemmas.Bool.Decides.{nat_tests}
 use Rattle.std.proofs.lemmas.Grind.{common_steps}
 use Rattle.byteorder.specs.Endian.{big_bytes, big_number}
 use Rattle.byteorder.specs.Numbers.{big_number-reads_back, length-bytes_high_first}
-use Rattle.nas_qos.specs.Filters.{PacketFilter, differing, filters_in, filters_octets, ids_differ, is_filter, is_filters}
-use Rattle.nas_qos.specs.Operations.{Operation, contents, ends_in_time, first_octet, first_operation, has_number, is_code, is_directed, is_operation, is_ops, is_tail, is_there_whole, names_a_rule, operation_in, operation_octets, operation_of, operation_size, operation_with, ops_in, ops_octets, tail_in, tail_octets}
+use Rattle.nas_qos.specs.Filters.{PacketFilter, differing, filters_in, filters_octets, ids_differ, is_filter}
+use Rattle.nas_qos.specs.Operations.{Operation, contents, ends_in_time, first_octet, first_operation, has_number, is_code, is_operation, is_ops, is_tail, is_there_whole, names_a_rule, operation_in, operation_octets, operation_of, operation_size, operation_with, ops_in, ops_octets, tail_in, tail_octets}
 use Rattle.nas_qos.proofs.FiltersBack.{filters_back}
 use Rattle.nas_qos.proofs.RuleFacts.{OpFacts, few_filters, op_facts}
 use Rattle.nas_qos.proofs.TurnsBack.{Back, all_back, both}

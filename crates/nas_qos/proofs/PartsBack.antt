@@ -1,5 +1,5 @@
 -- Components that are written are read back.
-use Rattle.std.proofs.Common.{◌≡◌, ◌<◌, ◌≤◌, ◌+◌, ◌^◌, ◌==◌, ℕ, Bool, true, ◌&&◌, List, [], ◌∷◌, ◌++◌, length, take, drop, nat_eq, nat_le, nat_lt, slice_index, length-append, append_assoc, Option, Some, None, Result, Ok, Err, sym, ◌∙◌, ap, arith, refl}
+use Rattle.std.proofs.Common.{◌≡◌, ◌<◌, ◌+◌, ℕ, true, List, ◌∷◌, ◌++◌, length, take, drop, nat_eq, nat_le, nat_lt, length-append, append_assoc, Some, sym, ◌∙◌, ap, arith, refl}
 use Rattle.std.specs.List.{list_all}
 use Rattle.std.specs.Result.{result_ok}
 use Rattle.std.proofs.lemmas.Bool.Decides.{nat_tests}
@@ -7,10 +7,9 @@ use Rattle.std.proofs.lemmas.Grind.{common_steps}
 use Rattle.byteorder.specs.Endian.{big_bytes, big_number}
 use Rattle.byteorder.specs.Numbers.{big_number-reads_back, length-bytes_high_first}
 use Rattle.nas_qos.specs.Parts.{first_part, is_part, is_parts, part_octets, part_of, part_size, parts_in, parts_octets, value_size}
-use Rattle.nas_qos.specs.Turns.{all_octets}
 use Rattle.nas_qos.specs.declared.part.Part.{Part}
 use Rattle.nas_qos.specs.declared.part.Part.TheVariants.{All, Remote, Local, Protocol, LocalPort, RemotePort, LocalPorts, RemotePorts}
-use Rattle.nas_qos.proofs.TurnsBack.{Back, all_back, both}
+use Rattle.nas_qos.proofs.TurnsBack.{all_back, both}
 
 -- a value of so many octets is there
 there : (n : ℕ) (value rest : List ℕ) → length value ≡ n → nat_le n (length (value ++ rest)) ≡ true

@@ -1,8 +1,6 @@
 -- What is done at the place of a rule.
-use Rattle.std.proofs.Common.{◌≡◌, ◌<◌, ◌≤◌, ◌+◌, ℕ, suc, Bool, true, false, List, [], ◌∷◌, ◌++◌, length, take, drop, get_or, set, nat_eq, nat_lt, cond, Option, Some, None, sym, ◌∙◌, ap, arith, refl}
+use Rattle.std.proofs.Common.{◌≡◌, ◌<◌, ℕ, suc, Bool, true, false, List, [], ◌∷◌, length, get_or, set, nat_eq, nat_lt, cond, Some, None, sym, ◌∙◌, ap, arith, refl}
 use Rattle.std.specs.List.{insert, remove}
-use Rattle.std.proofs.lemmas.Bool.Decides.{nat_tests}
-use Rattle.std.proofs.lemmas.Grind.{common_steps}
 use Rattle.nas_qos.specs.Applying.{changed, changed_rule, created, found, new_rule, replaced, with_changed, without}
 use Rattle.nas_qos.specs.Operations.{Operation}
 use Rattle.nas_qos.specs.Places.{lower, place}

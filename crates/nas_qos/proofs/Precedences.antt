@@ -1,8 +1,7 @@
 -- No precedence occurs twice behind an operation either.
-use Rattle.std.proofs.Common.{◌≡◌, ◌<◌, ◌≤◌, ◌+◌, ℕ, Bool, true, false, not, ◌&&◌, ◌||◌, List, [], ◌∷◌, nat_eq, nat_lt, cond, Option, Some, None, sym, ◌∙◌, ap, arith, refl}
+use Rattle.std.proofs.Common.{◌≡◌, ℕ, Bool, true, false, not, ◌&&◌, ◌||◌, List, [], ◌∷◌, nat_eq, nat_lt, cond, Some, sym, ◌∙◌, ap, arith, refl}
 use Rattle.std.specs.List.{list_all, list_any}
 use Rattle.std.proofs.lemmas.Bool.Decides.{nat_tests}
-use Rattle.std.proofs.lemmas.Grind.{common_steps}
 use Rattle.nas_qos.specs.Applying.{created, found, replaced, without}
 use Rattle.nas_qos.specs.Rules.{QosRule, has_precedence, ids_rise, precedences_differ}
 use Rattle.nas_qos.proofs.RuleLists.{found_fails, none_created, none_replaced, none_without}

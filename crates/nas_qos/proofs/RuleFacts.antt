@@ -1,6 +1,6 @@
 -- A rule that an operation makes is a rule.
-use Rattle.std.proofs.Common.{◌≡◌, ◌<◌, ◌≤◌, ◌+◌, ℕ, Bool, true, false, not, ◌&&◌, ◌||◌, List, [], ◌∷◌, ◌++◌, length, nat_eq, nat_lt, nat_le, cond, Option, Some, None, sym, ◌∙◌, ap, arith, refl, length-append}
-use Rattle.std.specs.List.{filter, list_all, list_any}
+use Rattle.std.proofs.Common.{◌≡◌, ◌≤◌, ◌+◌, ℕ, Bool, true, false, not, ◌&&◌, List, ◌++◌, length, nat_eq, nat_lt, cond, Option, Some, None, sym, ◌∙◌, ap, arith, refl, length-append}
+use Rattle.std.specs.List.{list_all, list_any}
 use Rattle.std.proofs.lemmas.Bool.Decides.{nat_tests}
 use Rattle.std.proofs.lemmas.Grind.{common_steps}
 use Rattle.nas_qos.specs.Applying.{adds_there, changed_filters, changed_rule, leaves_none, new_rule, qfi_in, remaining}

@@ -1,10 +1,9 @@
 -- Lists of rules behind one rule more, one less, and one in place of another.
-use Rattle.std.proofs.Common.{◌≡◌, ◌<◌, ◌≤◌, ◌+◌, ℕ, zero, suc, Bool, true, false, not, ◌&&◌, ◌||◌, List, [], ◌∷◌, ◌++◌, length, nat_eq, nat_lt, cond, Option, Some, None, sym, ◌∙◌, ap, arith, refl}
+use Rattle.std.proofs.Common.{◌≡◌, ◌<◌, ◌≤◌, ◌+◌, ℕ, Bool, true, false, List, [], ◌∷◌, length, nat_eq, nat_lt, cond, Some, sym, ◌∙◌, ap, arith, refl}
 use Rattle.std.specs.List.{list_all, list_any}
 use Rattle.std.proofs.lemmas.Bool.Decides.{nat_tests}
-use Rattle.std.proofs.lemmas.Grind.{common_steps}
-use Rattle.nas_qos.specs.Applying.{created, found, is_taken, replaced, without}
-use Rattle.nas_qos.specs.Rules.{QosRule, defaults_due, defaults_of, filters_of, has_precedence, ids_rise, precedences_differ}
+use Rattle.nas_qos.specs.Applying.{created, found, replaced, without}
+use Rattle.nas_qos.specs.Rules.{QosRule, defaults_due, defaults_of, filters_of, ids_rise}
 
 -- what holds of each rule, and of the new one, holds of each rule behind
 

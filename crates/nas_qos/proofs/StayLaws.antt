@@ -1,6 +1,5 @@
 -- An operation changes no rule but its own.
 use Rattle.std.proofs.Common.{◌≡◌, ℕ, Bool, true, false, ◌||◌, List, [], ◌∷◌, length, nat_eq, nat_lt, cond, Option, Some, None, Result, Ok, Err, sym, ◌∙◌, ap, arith, refl}
-use Rattle.std.specs.List.{list_any}
 use Rattle.std.proofs.lemmas.Bool.Decides.{nat_tests}
 use Rattle.nas_qos.specs.Applying.{all_applied, applied, changed, changed_rule, created, found, is_wrong, new_rule, next, replaced, with_changed, within_limits, without}
 use Rattle.nas_qos.specs.Laws.{OthersStay, UnnamedStay, is_named}

@@ -1,5 +1,5 @@
 -- Reading items one after the other.
-use Rattle.std.proofs.Common.{◌≡◌, ◌<◌, ◌≤◌, ◌+◌, ◌-◌, ℕ, zero, suc, List, [], ◌∷◌, ◌++◌, length, drop, length-drop, length-append, append_assoc, sym, ◌∙◌, Option, Some, None, Result, Ok, Err, ap, arith, refl}
+use Rattle.std.proofs.Common.{◌≡◌, ◌<◌, ◌≤◌, ◌+◌, ◌-◌, ℕ, zero, suc, List, [], ◌∷◌, ◌++◌, length, drop, length-drop, append_assoc, sym, ◌∙◌, Option, Some, None, Result, Ok, Err, ap, arith, refl}
 use Rattle.std.proofs.lemmas.Grind.{common_steps}
 use Rattle.nas_qos.specs.Turns.{all_octets, before, in_turn}
 

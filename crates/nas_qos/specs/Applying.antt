@@ -1,6 +1,6 @@
 -- What operations do to the rules of a session: a finite map from identifier to default bit, filters, precedence and QFI, which is kept
 -- as a list in the order of identifiers.
-use Rattle.std.specs.Prelude.{◌≡◌, ℕ, Bool, true, false, not, List, [], ◌∷◌, ◌++◌, length, filter, nat_eq, nat_lt, ◌==◌, ◌&&◌, ◌||◌, Option, Some, None, Result, Ok, Err, if◌then◌else◌}
+use Rattle.std.specs.Prelude.{ℕ, Bool, true, false, not, List, [], ◌∷◌, ◌++◌, length, filter, nat_eq, nat_lt, ◌==◌, ◌&&◌, ◌||◌, Option, Some, None, Result, Ok, Err, if◌then◌else◌}
 use Rattle.std.specs.List.{list_any}
 use Rattle.nas_qos.specs.Filters.{PacketFilter, names}
 use Rattle.nas_qos.specs.Operations.{Operation}

@@ -1,5 +1,5 @@
 -- Packet filters (TS 24.501 clause 9.11.4.13): a direction and an identifier, then components behind their length.
-use Rattle.std.specs.Prelude.{ℕ, zero, suc, ◌+◌, ◌*◌, ◌/◌, ◌%◌, Bool, true, false, not, List, [], ◌∷◌, ◌++◌, length, take, drop, slice_index, ◌==◌, nat_eq, nat_lt, nat_le, ◌&&◌, ◌||◌, Option, Some, None, option_map, if◌then◌else◌}
+use Rattle.std.specs.Prelude.{ℕ, zero, suc, ◌+◌, ◌*◌, ◌/◌, ◌%◌, Bool, true, not, List, [], ◌∷◌, length, take, drop, slice_index, ◌==◌, nat_eq, nat_lt, ◌&&◌, ◌||◌, Option, Some, None, option_map, if◌then◌else◌}
 use Rattle.std.specs.List.{list_all, list_any}
 use Rattle.nas_base.specs.Writing.{lv}
 use Rattle.nas_qos.specs.Parts.{is_parts, parts_in, parts_octets}

@@ -1,5 +1,5 @@
 -- Operations on QoS rules (TS 24.501 clause 9.11.4.13): a rule's identifier, and behind a length of two octets what is done with it.
-use Rattle.std.specs.Prelude.{ℕ, ◌+◌, ◌-◌, ◌*◌, ◌/◌, ◌%◌, Bool, true, false, not, List, [], ◌∷◌, ◌++◌, length, take, drop, ◌==◌, nat_eq, nat_lt, nat_le, ◌&&◌, ◌||◌, Option, Some, None, Result, if◌then◌else◌}
+use Rattle.std.specs.Prelude.{ℕ, ◌+◌, ◌-◌, ◌*◌, ◌/◌, ◌%◌, Bool, not, List, [], ◌∷◌, ◌++◌, length, take, drop, ◌==◌, nat_eq, nat_lt, nat_le, ◌&&◌, ◌||◌, Option, Some, None, Result, if◌then◌else◌}
 use Rattle.std.specs.List.{list_all}
 use Rattle.byteorder.specs.Endian.{big_number}
 use Rattle.nas_base.specs.Writing.{lve}

@@ -2,7 +2,7 @@
 -- so many octets as it was read from.
 use Rattle.std.specs.Prelude.{ℕ, ◌+◌, Bool, List, length, nat_eq, nat_le, ◌&&◌}
 use Rattle.std.specs.List.{list_all}
-use Rattle.nas_qos.specs.Filters.{PacketFilter, filter_octets, filter_size, filters_octets, has_components, is_filter, is_filters}
+use Rattle.nas_qos.specs.Filters.{PacketFilter, filter_octets, filter_size, filters_octets, is_filter, is_filters}
 use Rattle.nas_qos.specs.Operations.{Operation, is_directed, is_operation, operation_octets, operation_size}
 use Rattle.nas_qos.specs.Parts.{parts_octets}
 

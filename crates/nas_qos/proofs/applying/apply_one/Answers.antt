@@ -1,6 +1,4 @@
-use Rattle.std.proofs.Common.{◌≡◌, ◌∙◌, sym, ap, arith}
-use Rattle.nas_qos.specs.Applying.{changed, is_wrong}
-use Rattle.nas_qos.specs.Rules.{IsRules, filters_of}
+use Rattle.std.proofs.Common.{sym, arith}
 use Rattle.nas_qos.proofs.Keeping.{change_kept, kept_where_ok}
 use Rattle.nas_qos.proofs.applying.apply_one.Goals as goal
 

@@ -1,6 +1,5 @@
-use Rattle.std.proofs.Common.{◌≡◌, ◌<◌, ℕ, false, true, nat_eq, length, Some, sym, ◌∙◌, arith}
+use Rattle.std.proofs.Common.{◌≡◌, ◌<◌, false, true, nat_eq, length, arith}
 use Rattle.std.proofs.lemmas.Bool.Decides.{nat_tests}
-use Rattle.nas_qos.specs.Applying.{found}
 use Rattle.nas_qos.specs.Places.{place}
 use Rattle.nas_qos.proofs.Keeping.{may_at}
 use Rattle.nas_qos.proofs.PlaceLaws.{changed_at, changed_nowhere, deleted_at, found_at}

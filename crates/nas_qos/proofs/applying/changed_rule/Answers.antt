@@ -1,4 +1,4 @@
-use Rattle.std.proofs.Common.{◌≡◌, ap, ◌∙◌}
+use Rattle.std.proofs.Common.{ap, ◌∙◌}
 use Rattle.nas_qos.specs.Applying.{changed_filters, qfi_in}
 use Rattle.nas_qos.proofs.RuleFacts.{changed_is_rule, rule_made}
 use Rattle.nas_qos.proofs.applying.changed_rule.Goals as goal

@@ -1,7 +1,5 @@
-use Rattle.std.proofs.Common.{◌≡◌, true, sym, ◌∙◌, ap, take, arith}
+use Rattle.std.proofs.Common.{◌≡◌, take, arith}
 use Rattle.std.proofs.lemmas.Grind.{common_steps}
-use Rattle.nas_qos.specs.Applying.{remaining}
-use Rattle.nas_qos.specs.Filters.{is_filters}
 use Rattle.nas_qos.proofs.RuleFacts.{left_filters}
 use Rattle.nas_qos.proofs.filter.remaining.Goals as goal
 
