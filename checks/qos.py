@@ -33,12 +33,12 @@ def filters(rng, code, names):
     return octets
 
 
-def operation(rng, code=None, rule=None, default=None):
+def operation(rng, code=None, rule=None, default=None, number=None):
     """An operation on one of a few rules, well-formed, which goes with the rules or doesn't."""
     code = code or rng.choice([1, 1, 2, 3, 3, 4, 5, 5, 6])
     rule = rule or rng.choice([1, 1, 2, 2, 3, 4, 5, rng.randint(1, 255)])
     default = rng.random() < (0.5 if rule == 1 else 0.1) if default is None else default
-    number = 0 if code in (2, 6) else rng.choice([1, 1, 1, 2, 3, rng.randint(1, 15)])
+    number = 0 if code in (2, 6) else number or rng.choice([1, 1, 1, 2, 3, rng.randint(1, 15)])
     names = rng.sample(range(rng.choice([max(number, 4), 16])), number)
     tail = bytes([rng.choice([rule, rule, rng.randrange(8), rng.randrange(256)]), rng.randrange(256)])
     if code != 1 and rng.random() < 0.5:
@@ -72,26 +72,30 @@ def shown(rules):
     return " ".join(words) or "none"
 
 
-def full(rng):
-    """Creates of about as many rules, or filters, as a session has at most."""
-    first = operation(rng, code=1, rule=1, default=True)
-    rules = rng.randint(13, 17)
-    return [first] + [operation(rng, code=1, rule=rule, default=False) for rule in range(2, rules + 1)]
+def creates(rng):
+    """Creates of rules, each in a list of its own: mostly of a default one, then of as many rules or filters as a session has, or few."""
+    if rng.random() < 0.05:
+        return []
+    rules, number = rng.choice([(1, None), (3, None), (rng.randint(14, 17), 1), (rng.randint(3, 5), 15)])
+    return [operation(rng, 1, rule, rule == 1, number) for rule in range(1, rules + 1)]
 
 
 def chain(rng, codec):
-    """Lists of operations to be applied in turn, most of which go with the rules that are there then."""
+    """Lists of operations to be applied in turn, which go with the rules that are there then."""
     lists, there = [], ()
-    for octets in full(rng) if rng.random() < 0.15 else []:
+    for octets in creates(rng):
         lists, there = grown(codec, lists, there, octets)
-    for _ in range(rng.randint(1, 12)):
-        for _ in range(rng.choice([1, 4, 20])):
-            octets = operations(rng, rng.choice([1, 1, 2, 4]))
-            more, new = grown(codec, lists, there, octets)
-            if more is not lists:
-                break
-        lists, there = more, new
+    for _ in range(rng.choice([0, 1, 3, 12, 40])):
+        lists, there = grown(codec, lists, there, operations(rng, rng.choice([1, 1, 2, 4])))
     return lists
+
+
+def last(rng):
+    """The last list of a chain: mostly one operation that may go, sometimes several, or octets that are changed a little."""
+    if rng.random() < 0.3:
+        return operation(rng, 1, rng.randint(1, 255), False, rng.choice([1, 2, 15]))
+    octets = operations(rng, rng.choice([0, 1, 1, 2, 3, 8]))
+    return mutated(rng, octets) if rng.random() < 0.1 else octets
 
 
 def grown(codec, lists, there, octets):
@@ -103,9 +107,7 @@ def grown(codec, lists, there, octets):
 
 
 def apply_case(rng, codec):
-    lists = chain(rng, codec)
-    last = operations(rng, rng.choice([1, 2, 3, 8]))
-    lists = lists + [mutated(rng, last) if rng.random() < 0.1 else last]
+    lists = chain(rng, codec) + [last(rng)]
     rules = ()
     try:
         for octets in lists:
