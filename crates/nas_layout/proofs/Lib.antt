@@ -2,6 +2,7 @@ pub mod AbbaLaws
 pub mod ElementLaws
 pub mod FirstElementsLaws
 pub mod HalvesBack
+pub mod OctetRanges
 pub mod PieceLaws
 pub mod SpellsLaws
 pub mod ValuesBack
