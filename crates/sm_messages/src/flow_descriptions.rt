@@ -1,6 +1,6 @@
 //! What a network tells of the QoS flows of a session.
 use nas_base::{Full, Writer};
-use nas_layout::Written;
+use nas_layout::{Counted, Written};
 
 /// That QoS flow descriptions are there (TS 24.501 clause 9.11.4.12). What they describe is not kept: they are written as one
 /// description, which creates flow 1 with 5QI 9.
@@ -18,5 +18,11 @@ impl Written for FlowDescriptions {
 
     fn write_to(&self, out: &mut Writer) -> Result<(), Full> {
         out.put(&[0x01, 0x20, 0x41, 0x01, 0x01, 0x09])
+    }
+}
+
+impl Counted for FlowDescriptions {
+    fn count(&self) -> u8 {
+        6
     }
 }

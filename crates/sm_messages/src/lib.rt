@@ -24,5 +24,5 @@ pub use crate::flow_descriptions::FlowDescriptions;
 pub use crate::kind::kind_of;
 pub use crate::laws::frame_is_read_back;
 pub use crate::message::{Sm, SmFrame, SmRefusal, decode_sm, encode_sm};
-pub use crate::session_type::SessionType;
+pub use crate::session_type::{SessionType, half_of};
 pub use crate::spelling_laws::{first_elements_count, frames_are_spelled};

@@ -30,7 +30,7 @@ impl SessionType {
     }
 }
 
-/// What is written of a type that may be absent.
+/// A type that may be absent, as it stands in a half: bit 4 is 0.
 pub fn half_of(session_type: &Option<SessionType>) -> Option<Half>
     ensures { result ≡ session_type.now }
 {

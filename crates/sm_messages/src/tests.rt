@@ -104,7 +104,7 @@ fn a_message_that_is_cut_keeps_its_whole_elements(rt: HostRuntime) -> Result<(),
     Ok(())
 }
 
-// The first octets of an acceptance with so many octets of rules, which are zeros, and of what stands behind them.
+// A message with these octets first, and then zeros: rules, and what stands behind them.
 fn with_rules(first: [u8; 7]) -> [u8; 4115] {
     let mut octets = [0; 4115];
     octets[..7].copy_from_slice(&first);
@@ -130,6 +130,22 @@ fn rules_have_at_most_4100_octets(rt: HostRuntime) -> Result<(), Fail> {
         Err(refusal) => assert_eq!(rt; refusal, SmRefusal::Mandatory { part: 2, at: 5 }),
         Ok(_) => return Err("a message".into()),
     }
+
+    // The same of an element: 4 octets of the head, 3 and 4,100; one octet more has no value.
+    let most = with_rules([0x2e, 1, 1, 0xc9, 0x7a, 0x10, 0x04]);
+    let frame = decode_sm(rt.alloc(), &most).ok().ok_or("no message")?;
+    assert_eq!(rt;
+        encode_sm(&frame, &mut Writer::new()),
+        Err(Full {
+            need: 4107,
+            room: 4096
+        })
+    );
+    let more = with_rules([0x2e, 1, 1, 0xc9, 0x7a, 0x10, 0x05]);
+    let frame = decode_sm(rt.alloc(), &more).ok().ok_or("no message")?;
+    let mut out = Writer::new();
+    encode_sm(&frame, &mut out).ok().ok_or("room")?;
+    assert_eq!(rt; out.octets(), [0x2e, 1, 1, 0xc9].as_slice());
     Ok(())
 }
 
