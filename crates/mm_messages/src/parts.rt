@@ -5,10 +5,9 @@ ghost use Rattle.nas_elements.specs.Identity.{identity_in};
 ghost use Rattle.nas_layout.specs.Abba.{abba_in};
 ghost use Rattle.nas_layout.specs.Layout.{Takes, part_at};
 ghost use Rattle.nas_layout.specs.declared.frame.Frame.TheVariants.{V, Lv, Lve};
-ghost use Rattle.nas_layout.specs.Parts.{container_in, octet_in};
 ghost use Rattle.mm_messages.specs.Parts.{result_in};
 
-use nas_base::{Octets, OctetsRefusal, Reader};
+use nas_base::Reader;
 use nas_elements::{Algs, Capability, Identity, IdentityRefusal};
 use nas_layout::{Abba, BodyRefusal, Frame, cut, value};
 use std::alloc::Global;

@@ -22,7 +22,8 @@
 use crate::words::{Refusal, octets, text};
 use nas_base::{Full, Writer};
 use nas_elements::{
-    Address, Algs, Ambr, Asi, Capability, Dnn, Guti, Identity, IdentityRefusal, Nssai, Slice, Status, Stmsi, Suci, TaiList, Timer3, Wrong,
+    Address, Algs, Ambr, Asi, Capability, Dnn, Guti, Identity, IdentityRefusal, Nssai, Slice,
+    Status, Stmsi, Suci, TaiList, Timer3, Wrong,
 };
 use std::alloc::Global;
 

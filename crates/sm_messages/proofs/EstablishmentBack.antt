@@ -1,7 +1,6 @@
 -- The request and the acceptance of an establishment are read back.
 use Rattle.std.proofs.Common.{◌≡◌, ◌∙◌, ◌+◌, ◌%◌, ◌<◌, ◌≤◌, ◌^◌, ℕ, List, [], ◌∷◌, length, Option, Some, None, option_map, Ok, arith, refl, ap}
 use Rattle.std.specs.Prelude.{IfSome}
-use Rattle.std.proofs.lemmas.Bool.Decides.{nat_tests}
 use Rattle.nas_base.specs.Walking.{RowParts}
 use Rattle.nas_base.specs.declared.sm_kind.SmKind.TheVariants as kinds
 use Rattle.nas_elements.specs.Address.{address_in, address_octets}
@@ -13,7 +12,7 @@ use Rattle.nas_elements.specs.declared.address.Address.{Address}
 use Rattle.nas_elements.specs.declared.ambr.Ambr.{Ambr}
 use Rattle.nas_elements.specs.declared.slice.Slice.{Slice}
 use Rattle.nas_layout.proofs.ElementLaws.{half_mapped}
-use Rattle.nas_layout.proofs.HalvesBack.{high_back, low_back}
+use Rattle.nas_layout.proofs.HalvesBack.{high_back}
 use Rattle.nas_layout.proofs.PieceLaws.{written_known}
 use Rattle.nas_layout.proofs.ValuesBack.{container_back, exactly_back, octet_back, one_octet_long}
 use Rattle.nas_layout.specs.Half.{half_in}

@@ -8,7 +8,7 @@ use Rattle.nas_base.specs.Kinds.{sm_kind, sm_type}
 use Rattle.nas_base.specs.declared.sm_kind.SmKind.{SmKind}
 use Rattle.nas_layout.proofs.SpellsLaws.{laid_spelled, spelled_laid}
 use Rattle.nas_layout.specs.Laws.{AreOctets}
-use Rattle.nas_layout.specs.Layout.{Spells, laid}
+use Rattle.nas_layout.specs.Layout.{laid}
 use Rattle.nas_layout.specs.declared.body.BodyRefusal.{BodyRefusal}
 use Rattle.nas_layout.specs.declared.body.BodyRefusal.TheVariants as body
 use Rattle.sm_messages.proofs.Back.{body_of}
