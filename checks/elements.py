@@ -31,7 +31,9 @@ def readers(codec):
     sucis = ["0100f110f0ff00000000000010", "0121436521f30000f7", "0100f1102143010012", "0100f11021ff000021"]
     others = ["0911", "0382", "05", "0700ff", "1102"]
     return {
+        "read_address": (codec.AddressC, ["010a2d0002", "020102030405060708", "0301020304050607080a2d0002"]),
         "read_algs": (codec.AlgsC, ["02", "21"]),
+        "read_ambr": (codec.AmbrC, ["0603e80603e8", "0100ff04ffff"]),
         "read_asi": (codec.U8, ["00", "02"]),
         "read_capability": (codec.Octs(2, 8), ["a020", "f0f0f0f0", "a020000000000000"]),
         "read_dnn": (codec.DnnC, ["08696e7465726e6574", "0161", "3f" + "61" * 63 + "23" + "62" * 35]),

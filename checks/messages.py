@@ -1,4 +1,4 @@
-"""Compares nas_probe's calls of mm_messages and nas_show with an executable model. See messages.sh.
+"""Compares nas_probe's calls of mm_messages, sm_messages and nas_show with an executable model. See messages.sh.
 
 usage: messages.py MODEL PROBE [LINES [SEED]]
 """
@@ -38,12 +38,31 @@ MESSAGES = [
     "7e00670100042e0101d3120181220401010203250908696e7465726e657459aa",
     "7e00680100032e01011205585a",
     "7e0211223344057e0043",
+    "2e0101c1ffff91a1",
+    "2e0f00c10102550010",
+    "2e0101c211000901000631310101ff01060603e80603e82905010a2d0002220101790006012041010109250908696e7465726e6574",
+    "2e01fec2f80000060300010400025932290d030102030405060708" + "0a2d000256aa",
+    "2e0101c31a",
+    "2e0101c97a000402000140",
+    "2e0102c9592455001013ffff7a0000",
+    "2e0101ca54",
+    "2e0100cb7a000402000140",
+    "2e0100cb59242a060603e80603e87a00010056aa",
+    "2e0101cc",
+    "2e0101cd53",
+    "2e0101d15924",
+    "2e0101d22b",
+    "2e0101d324",
+    "2e0101d45924",
+    "2effffd66f",
 ]
 # Elements known to some messages and unknown to others, whole, doubled and cut.
 ELEMENTS = [
     "2e02a020", "50022000", "50030400ff", "77000bf200f11002004000000001", "770007f4004000000001", "54070000f110000001", "150401010202",
     "1500", "5e0106", "5e020601", "d3", "81", "a1", "1205", "585a", "36010f", "7100027e00", "22010a", "2203010203", "25020161", "2502ff61",
     "21" + "00" * 16, "2010" + "11" * 16, "2d10" + "22" * 16, "300e" + "33" * 14, "7b000100", "3f02aabb", "01ff", "7affff", "50",
+    "9a", "a9", "5924", "29050a0b0c0d0e", "2905010a2d0002", "2909020102030405060708", "2a060100ff04ffff", "2a0101", "790000", "7900020102", "7a0000",
+    "7a000402000140", "550010", "13ffff", "56aa", "59",
 ]
 
 
@@ -57,10 +76,20 @@ def given(rng):
     return mutated(rng, octets) if rng.random() < 0.7 else octets
 
 
-def decoded(codec, octets):
-    """The octets that the model writes the message as, or why there is none."""
+def mm(codec, octets):
+    """The octets that the model writes the 5GMM message as."""
+    return text(codec.encode_mm(codec.decode_mm(octets)))
+
+
+def sm(codec, octets):
+    """The octets that the model writes the 5GSM message as."""
+    return text(codec.encode_sm(*codec.decode_sm(octets)))
+
+
+def decoded(read, codec, octets):
+    """What is read and written again, or why there is no message."""
     try:
-        return text(codec.encode_mm(codec.decode_mm(octets)))
+        return read(codec, octets)
     except codec.Ignored as refusal:
         return f"ignored {refusal.at}"
     except codec.UnknownType as refusal:
@@ -71,8 +100,6 @@ def decoded(codec, octets):
 
 def shown(codec, octets):
     """The model's text with a stroke for each line's end, or the place of the fault."""
-    if octets[:1] == b"\x2e":  # 5GSM messages aren't shown yet
-        return "octets 0"
     try:
         return "".join(line + "|" for line in codec.show(octets))
     except codec.ShowRefusal as refusal:
@@ -81,8 +108,10 @@ def shown(codec, octets):
 
 def case(rng, codec):
     octets = given(rng)
-    call, answer = rng.choice([("mm", decoded), ("show", shown)])
-    return f"{call} {text(octets)}", answer(codec, octets)
+    if rng.random() < 0.5:
+        return f"show {text(octets)}", shown(codec, octets)
+    read = sm if (octets[:1] == b"\x2e") != (rng.random() < 0.05) else mm
+    return f"{read.__name__} {text(octets)}", decoded(read, codec, octets)
 
 
 def main():

@@ -1,5 +1,5 @@
 #!/bin/sh
-# Compares the 5GMM messages as they are read, written and shown, through the program nas_probe, with the executable model that NAS_MODEL names, on
+# Compares the 5GMM and 5GSM messages as they are read, written and shown, through the program nas_probe, with the executable model that NAS_MODEL names, on
 # messages that are changed a little, with elements behind them, and on random octets. A difference ends with status 1; where the program isn't built,
 # no model is there or python3 is missing, nothing is compared, with status 0.
 #

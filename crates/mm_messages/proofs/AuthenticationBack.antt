@@ -8,11 +8,11 @@ use Rattle.nas_layout.proofs.PieceLaws.{written_known}
 use Rattle.nas_layout.specs.Pieces.{FitPieces, Piece, fixed, pieces_octets, short}
 use Rattle.mm_messages.proofs.Back.{back}
 use Rattle.mm_messages.proofs.HalvesBack.{ksi_back}
-use Rattle.mm_messages.proofs.ValuesBack.{exactly_back}
+use Rattle.nas_layout.proofs.ValuesBack.{exactly_back}
 use Rattle.mm_messages.specs.Authentication.{authentication_failure, authentication_failure_layout, authentication_request, authentication_request_layout, authentication_response, authentication_response_layout}
 use Rattle.mm_messages.specs.Messages.{mm_in, spelling}
-use Rattle.mm_messages.specs.Parts.{exactly}
-use Rattle.mm_messages.specs.Rows.{fixed_row, tlv_row}
+use Rattle.nas_layout.specs.Parts.{exactly}
+use Rattle.nas_layout.specs.Rows.{fixed_row, tlv_row}
 use Rattle.mm_messages.specs.declared.message.Mm.TheVariants.{AuthenticationFailure, AuthenticationRequest, AuthenticationResponse}
 
 abbrev request_rows : List RowParts

@@ -11,10 +11,10 @@ use Rattle.nas_layout.specs.Half.{half_in}
 use Rattle.nas_layout.specs.Layout.{read_as}
 use Rattle.nas_layout.specs.Pieces.{FitPieces, Piece, half, long, pieces_octets}
 use Rattle.mm_messages.proofs.Back.{back}
-use Rattle.mm_messages.proofs.ValuesBack.{guti_long}
+use Rattle.nas_layout.proofs.ValuesBack.{guti_long}
 use Rattle.mm_messages.specs.ConfigurationUpdate.{configuration_update_command, configuration_update_command_layout}
 use Rattle.mm_messages.specs.Messages.{mm_in, spelling}
-use Rattle.mm_messages.specs.Rows.{fixed_row, half_row, tlve_row}
+use Rattle.nas_layout.specs.Rows.{fixed_row, half_row, tlve_row}
 use Rattle.mm_messages.specs.declared.message.Mm.TheVariants.{ConfigurationUpdateCommand}
 
 abbrev rows : List RowParts

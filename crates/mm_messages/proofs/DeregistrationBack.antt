@@ -12,11 +12,12 @@ use Rattle.nas_layout.specs.Pieces.{fixed}
 use Rattle.nas_layout.specs.Writing.{optional_tv}
 use Rattle.mm_messages.proofs.Back.{back}
 use Rattle.mm_messages.proofs.HalvesBack.{low_switch_off_back, switch_off_back, switch_off_ksi_back}
-use Rattle.mm_messages.proofs.ValuesBack.{octet_back, one_octet_long}
+use Rattle.nas_layout.proofs.ValuesBack.{octet_back, one_octet_long}
 use Rattle.mm_messages.specs.Deregistration.{deregistration_request_ue_originating, deregistration_request_ue_originating_layout, deregistration_request_ue_terminated, deregistration_request_ue_terminated_layout}
 use Rattle.mm_messages.specs.Messages.{mm_in, spelling}
-use Rattle.mm_messages.specs.Parts.{deregistration_code, is_switch_off, octet_in, one_octet}
-use Rattle.mm_messages.specs.Rows.{fixed_row}
+use Rattle.nas_layout.specs.Parts.{octet_in, one_octet}
+use Rattle.mm_messages.specs.Parts.{deregistration_code, is_switch_off}
+use Rattle.nas_layout.specs.Rows.{fixed_row}
 use Rattle.mm_messages.specs.declared.message.Mm.TheVariants.{DeregistrationRequestUeOriginating, DeregistrationRequestUeTerminated}
 
 pub request_of_handset_back : (switch_off : Bool) (ksi : ℕ) (identity : Identity) → ksi < 8 → length (identity_octets identity) ≤ 4100

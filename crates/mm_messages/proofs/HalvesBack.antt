@@ -2,18 +2,11 @@
 use Rattle.std.proofs.Common.{◌≡◌, ◌<◌, ◌+◌, ℕ, Bool, true, false, arith, refl, ap, ◌∙◌}
 use Rattle.std.specs.Prelude.{nat_le}
 use Rattle.nas_elements.specs.Packed.{two_halves}
-use Rattle.mm_messages.specs.Parts.{deregistration_code, follow_on, high_half, is_switch_off, ksi_of, low_half, registration_type_code, registration_type_of}
+use Rattle.nas_layout.proofs.HalvesBack.{low_back}
+use Rattle.nas_layout.specs.Parts.{high_half, low_half}
+use Rattle.mm_messages.specs.Parts.{deregistration_code, follow_on, is_switch_off, ksi_of, registration_type_code, registration_type_of}
 use Rattle.mm_messages.specs.declared.registration.RegistrationType.{RegistrationType}
 use Rattle.mm_messages.specs.declared.registration.RegistrationType.TheVariants.{Initial, Mobility, Periodic, Emergency}
-
-pub low_back : (low high : ℕ) → low < 16 → low_half (two_halves low high) ≡ low
-low_back low high small = omega arith
-
-pub high_back : (low high : ℕ) → low < 16 → high_half (two_halves low high) ≡ high
-high_back low high small = omega arith
-
-pub half_back : (half : ℕ) → half < 16 → low_half half ≡ half
-half_back half small = omega arith
 
 pub ksi_back : (ksi : ℕ) → ksi < 8 → ksi_of (low_half ksi) ≡ ksi
 ksi_back ksi range = omega arith

@@ -12,5 +12,3 @@ pub mod ServiceBack
 pub mod SpelledLaws
 pub mod SpellingLaws
 pub mod TransportBack
-pub mod ValuesBack
-pub mod WalkedWhole

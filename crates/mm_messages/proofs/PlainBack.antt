@@ -2,7 +2,7 @@
 use Rattle.std.proofs.Common.{◌≡◌, ◌<◌, ℕ, [], ◌∷◌, Ok, refl, sym, ap}
 use Rattle.nas_base.specs.declared.mm_kind.MmKind.TheVariants as kinds
 use Rattle.mm_messages.proofs.Back.{back}
-use Rattle.mm_messages.proofs.HalvesBack.{half_back}
+use Rattle.nas_layout.proofs.HalvesBack.{half_back}
 use Rattle.mm_messages.specs.Identification.{identity_request, identity_request_layout}
 use Rattle.mm_messages.specs.Messages.{mm_in, spelling}
 use Rattle.mm_messages.specs.Registration.{registration_reject, registration_reject_layout}

@@ -18,11 +18,11 @@ use Rattle.nas_layout.specs.Layout.{read_as}
 use Rattle.nas_layout.specs.Pieces.{FitPieces, Piece, long, pieces_octets, short}
 use Rattle.mm_messages.proofs.Back.{back}
 use Rattle.mm_messages.proofs.HalvesBack.{type_back, type_ksi_back}
-use Rattle.mm_messages.proofs.ValuesBack.{guti_long}
+use Rattle.nas_layout.proofs.ValuesBack.{guti_long}
 use Rattle.mm_messages.specs.Messages.{mm_in, spelling}
 use Rattle.mm_messages.specs.Parts.{follow_on, registration_type_code}
 use Rattle.mm_messages.specs.Registration.{registration_accept, registration_accept_layout, registration_request, registration_request_layout}
-use Rattle.mm_messages.specs.Rows.{fixed_row, tlv_row, tlve_row}
+use Rattle.nas_layout.specs.Rows.{fixed_row, tlv_row, tlve_row}
 use Rattle.mm_messages.specs.declared.message.Mm.TheVariants.{RegistrationAccept, RegistrationRequest}
 use Rattle.mm_messages.specs.declared.registration.RegistrationType.{RegistrationType}
 

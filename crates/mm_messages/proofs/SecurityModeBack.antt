@@ -12,10 +12,10 @@ use Rattle.nas_layout.specs.Layout.{read_as}
 use Rattle.nas_layout.specs.Pieces.{long, pieces_octets, short}
 use Rattle.mm_messages.proofs.Back.{back}
 use Rattle.mm_messages.proofs.HalvesBack.{ksi_back}
-use Rattle.mm_messages.proofs.ValuesBack.{message_back, message_long}
+use Rattle.nas_layout.proofs.ValuesBack.{container_known, container_long}
 use Rattle.mm_messages.specs.Messages.{mm_in, spelling}
-use Rattle.mm_messages.specs.Parts.{container_in}
-use Rattle.mm_messages.specs.Rows.{fixed_row, tlv_row, tlve_row}
+use Rattle.nas_layout.specs.Parts.{container_in}
+use Rattle.nas_layout.specs.Rows.{fixed_row, tlv_row, tlve_row}
 use Rattle.mm_messages.specs.SecurityMode.{security_mode_command, security_mode_command_layout, security_mode_complete, security_mode_complete_layout}
 use Rattle.mm_messages.specs.declared.message.Mm.TheVariants.{SecurityModeCommand, SecurityModeComplete}
 
@@ -62,5 +62,5 @@ pub security_mode_complete_back : (message : Option (List ℕ)) → IfSome messa
     mm_in (spelling (SecurityModeComplete message)) ≡ Ok (SecurityModeComplete message)
 unfolding security_mode_complete security_mode_complete_layout
 security_mode_complete_back message size =
-    let m = written_known complete_rows (long 0x71 message ∷ []) 0x71 container_in refl (message_long message size, tt) refl ∙ message_back message size in
+    let m = written_known complete_rows (long 0x71 message ∷ []) 0x71 container_in refl (container_long message size, tt) refl ∙ container_known message size in
     back kinds.SecurityModeComplete _ (SecurityModeComplete message) (ap (λ (x : Option (List ℕ)). SecurityModeComplete x) (sym m))

@@ -11,10 +11,12 @@ use Rattle.nas_layout.proofs.PieceLaws.{written_known}
 use Rattle.nas_layout.specs.Layout.{known, read_as}
 use Rattle.nas_layout.specs.Pieces.{short}
 use Rattle.mm_messages.proofs.Back.{back}
-use Rattle.mm_messages.proofs.HalvesBack.{high_back, low_ksi_back}
+use Rattle.nas_layout.proofs.HalvesBack.{high_back}
+use Rattle.mm_messages.proofs.HalvesBack.{low_ksi_back}
 use Rattle.mm_messages.specs.Messages.{mm_in, spelling}
-use Rattle.mm_messages.specs.Parts.{high_half, ksi_of, low_half}
-use Rattle.mm_messages.specs.Rows.{tlv_row}
+use Rattle.nas_layout.specs.Parts.{high_half, low_half}
+use Rattle.mm_messages.specs.Parts.{ksi_of}
+use Rattle.nas_layout.specs.Rows.{tlv_row}
 use Rattle.mm_messages.specs.Service.{service_accept, service_accept_layout, service_reject, service_reject_layout, service_request, service_request_layout}
 use Rattle.mm_messages.specs.declared.message.Mm.TheVariants.{ServiceAccept, ServiceReject, ServiceRequest}
 

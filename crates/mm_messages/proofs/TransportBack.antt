@@ -12,11 +12,11 @@ use Rattle.nas_layout.specs.Half.{half_in}
 use Rattle.nas_layout.specs.Layout.{read_as}
 use Rattle.nas_layout.specs.Pieces.{FitPieces, Piece, fixed, half, pieces_octets, short}
 use Rattle.mm_messages.proofs.Back.{back}
-use Rattle.mm_messages.proofs.HalvesBack.{half_back}
-use Rattle.mm_messages.proofs.ValuesBack.{container_back, octet_back, one_octet_long}
+use Rattle.nas_layout.proofs.HalvesBack.{half_back}
+use Rattle.nas_layout.proofs.ValuesBack.{container_back, octet_back, one_octet_long}
 use Rattle.mm_messages.specs.Messages.{mm_in, spelling}
-use Rattle.mm_messages.specs.Parts.{low_half, octet_in, one_octet}
-use Rattle.mm_messages.specs.Rows.{fixed_row, half_row, tlv_row}
+use Rattle.nas_layout.specs.Parts.{low_half, octet_in, one_octet}
+use Rattle.nas_layout.specs.Rows.{fixed_row, half_row, tlv_row}
 use Rattle.mm_messages.specs.Transport.{dl_nas_transport, dl_nas_transport_layout, ul_nas_transport, ul_nas_transport_layout}
 use Rattle.mm_messages.specs.declared.message.Mm.TheVariants.{DlNasTransport, UlNasTransport}
 

@@ -5,8 +5,9 @@ use Rattle.nas_layout.specs.Layout.{Layout, elements, known, nothing_more, part}
 use Rattle.nas_layout.specs.declared.frame.Frame.TheVariants.{V, Lv}
 use Rattle.nas_layout.specs.Abba.{abba_in}
 use Rattle.nas_layout.specs.Writing.{optional_tv}
-use Rattle.mm_messages.specs.Parts.{exactly, head, ksi_of, low_half, octet_in}
-use Rattle.mm_messages.specs.Rows.{fixed_row, tlv_row}
+use Rattle.nas_layout.specs.Parts.{exactly, low_half, octet_in}
+use Rattle.mm_messages.specs.Parts.{head, ksi_of}
+use Rattle.nas_layout.specs.Rows.{fixed_row, tlv_row}
 use Rattle.mm_messages.specs.declared.message.Mm.{Mm}
 use Rattle.mm_messages.specs.declared.message.Mm.TheVariants.{AuthenticationRequest, AuthenticationResponse, AuthenticationReject, AuthenticationFailure}
 

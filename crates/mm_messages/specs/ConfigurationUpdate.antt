@@ -6,7 +6,7 @@ use Rattle.nas_layout.specs.Layout.{Layout, elements, known, nothing_more}
 use Rattle.nas_layout.specs.Half.{half_in}
 use Rattle.nas_layout.specs.Writing.{optional_half, optional_tlve}
 use Rattle.mm_messages.specs.Parts.{head}
-use Rattle.mm_messages.specs.Rows.{fixed_row, half_row, tlve_row}
+use Rattle.nas_layout.specs.Rows.{fixed_row, half_row, tlve_row}
 use Rattle.mm_messages.specs.declared.message.Mm.{Mm}
 use Rattle.mm_messages.specs.declared.message.Mm.TheVariants.{ConfigurationUpdateCommand, ConfigurationUpdateComplete}
 

@@ -7,8 +7,9 @@ use Rattle.nas_elements.specs.declared.identity.Identity.{Identity}
 use Rattle.nas_layout.specs.Layout.{Layout, elements, known, nothing_more, part}
 use Rattle.nas_layout.specs.declared.frame.Frame.TheVariants.{V, Lve}
 use Rattle.nas_layout.specs.Writing.{optional_tv}
-use Rattle.mm_messages.specs.Parts.{deregistration_code, head, high_half, is_switch_off, ksi_of, octet_in, one_octet}
-use Rattle.mm_messages.specs.Rows.{fixed_row}
+use Rattle.nas_layout.specs.Parts.{high_half, octet_in, one_octet}
+use Rattle.mm_messages.specs.Parts.{deregistration_code, head, is_switch_off, ksi_of}
+use Rattle.nas_layout.specs.Rows.{fixed_row}
 use Rattle.mm_messages.specs.declared.message.Mm.{Mm}
 use Rattle.mm_messages.specs.declared.message.Mm.TheVariants.{DeregistrationRequestUeOriginating, DeregistrationAcceptUeOriginating, DeregistrationRequestUeTerminated, DeregistrationAcceptUeTerminated}
 

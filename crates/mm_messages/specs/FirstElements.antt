@@ -1,33 +1,11 @@
 -- What may stand behind a message and changes nothing: further elements of identifiers that stand there already (TS 24.007
 -- clause 11.2.4, TS 24.501 clause 7.6.3).
-use Rattle.std.specs.Prelude.{◌≡◌, ℕ, zero, suc, ◌%◌, ◌==◌, Bool, List, ◌∷◌, length, Option, Some, None, is_some}
-use Rattle.std.specs.List.{list_all}
+use Rattle.std.specs.Prelude.{◌≡◌, ℕ, ◌%◌, List, ◌∷◌}
 use Rattle.nas_base.specs.Kinds.{mm_type}
-use Rattle.nas_base.specs.Walking.{Element, Head, RowParts, head_of, value_of}
+use Rattle.nas_base.specs.Walking.{RowParts}
 use Rattle.nas_base.specs.declared.mm_kind.MmKind.{MmKind}
-use Rattle.nas_layout.specs.Layout.{Layout, PartSpells, elements, part}
+use Rattle.nas_layout.specs.FirstElements.{PartsThen}
 use Rattle.mm_messages.specs.Messages.{layout_of}
-
--- a walk comes to the end of the octets: no element is cut
-abbrev pub ends_after : (List ℕ → Bool) → List ℕ → Option Head → Bool
-ends_after rest octets None = length octets == 0
-ends_after rest octets (Some h) = rest h.behind
-
-abbrev pub ends_within : ℕ → List RowParts → List ℕ → Bool
-ends_within zero shape octets = length octets == 0
-ends_within (suc n) shape octets = ends_after (ends_within n shape) octets (head_of shape octets)
-
-abbrev pub is_walked_whole : List RowParts → List ℕ → Bool
-is_walked_whole shape octets = ends_within (length octets) shape octets
-
--- each has the identifier of one before
-abbrev pub are_repeated : List Element → List Element → Bool
-are_repeated before es = list_all (λ (e : Element). is_some (value_of e.iei before)) es
-
--- octets are a layout's parts one after the other, each in its frame, and then a tail of elements in a shape
-abbrev pub PartsThen : {A : Type 0} → Layout A → List RowParts → List ℕ → List ℕ → Type 0
-PartsThen (part frame reading next) shape tail octets = PartSpells frame reading (λ x rest. PartsThen (next x) shape tail rest) octets
-PartsThen (elements rows made) shape tail octets = (shape ≡ rows) × (tail ≡ octets)
 
 -- octets are a message's head and parts, and then such a tail
 pub record EndsInElements (octets : List ℕ) (shape : List RowParts) (tail : List ℕ) : Type 0 where

@@ -5,7 +5,8 @@ use Rattle.nas_elements.specs.Identity.{identity_in, identity_octets}
 use Rattle.nas_elements.specs.declared.identity.Identity.{Identity}
 use Rattle.nas_layout.specs.Layout.{Layout, nothing_more, part}
 use Rattle.nas_layout.specs.declared.frame.Frame.TheVariants.{V, Lve}
-use Rattle.mm_messages.specs.Parts.{head, low_half, octet_in}
+use Rattle.nas_layout.specs.Parts.{low_half, octet_in}
+use Rattle.mm_messages.specs.Parts.{head}
 use Rattle.mm_messages.specs.declared.message.Mm.{Mm}
 use Rattle.mm_messages.specs.declared.message.Mm.TheVariants.{IdentityRequest, IdentityResponse}
 

@@ -1,14 +1,12 @@
 pub mod Authentication
 pub mod ConfigurationUpdate
 pub mod Deregistration
-pub mod Elements
 pub mod FirstElements
 pub mod Identification
 pub mod KindOf
 pub mod Messages
 pub mod Parts
 pub mod Registration
-pub mod Rows
 pub mod SecurityMode
 pub mod Service
 pub mod StatusMessage

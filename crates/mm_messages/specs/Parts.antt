@@ -1,25 +1,11 @@
 -- What the parts and elements of 5GMM messages read as, where that is no element of its own (TS 24.501 clause 9.11.3).
-use Rattle.std.specs.Prelude.{ℕ, ◌/◌, ◌%◌, Bool, List, [], ◌∷◌, length, slice_index, nat_le, ◌==◌, Option, Some, None, if◌then◌else◌}
+use Rattle.std.specs.Prelude.{ℕ, ◌%◌, Bool, List, [], ◌∷◌, nat_le, ◌==◌, Option, Some, None, if◌then◌else◌}
 use Rattle.mm_messages.specs.declared.registration.RegistrationType.{RegistrationType}
 use Rattle.mm_messages.specs.declared.registration.RegistrationType.TheVariants.{Initial, Mobility, Periodic, Emergency}
 
 -- 5GMM's extended protocol discriminator, header type 0 of a plain message, the message type (clauses 9.2, 9.3 and 9.7)
 abbrev pub head : ℕ → List ℕ
 head kind = 0x7e ∷ 0x00 ∷ kind ∷ []
-
--- the one octet of a part or of an element of fixed length: any
-abbrev pub octet_in : List ℕ → Option ℕ
-octet_in octets = Some (slice_index octets 0)
-
-abbrev pub one_octet : ℕ → List ℕ
-one_octet octet = octet ∷ []
-
--- the two halves of an octet: bits 1 to 4, and bits 5 to 8
-abbrev pub low_half : ℕ → ℕ
-low_half octet = octet % 16
-
-abbrev pub high_half : ℕ → ℕ
-high_half octet = octet / 16
 
 -- ngKSI in a half: bits 1 to 3 (clause 9.11.3.32)
 abbrev pub ksi_of : ℕ → ℕ
@@ -48,15 +34,7 @@ is_switch_off half = nat_le 8 (half % 16)
 abbrev pub deregistration_code : Bool → ℕ
 deregistration_code switch_off = if switch_off then 9 else 1
 
--- a container of any octets, up to as many as are kept (clause 9.11.3.39), and a whole message (clause 9.11.3.33)
-abbrev pub container_in : List ℕ → Option (List ℕ)
-container_in octets = if nat_le (length octets) 4100 then Some octets else None
-
 -- a result of exactly one octet (clause 9.11.3.6)
 abbrev pub result_in : List ℕ → Option ℕ
 result_in (octet ∷ []) = Some octet
 result_in octets = None
-
--- so many octets and no others
-abbrev pub exactly : ℕ → List ℕ → Option (List ℕ)
-exactly n octets = if length octets == n then Some octets else None

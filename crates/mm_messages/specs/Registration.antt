@@ -15,8 +15,9 @@ use Rattle.nas_elements.specs.declared.slice.Slice.{Slice}
 use Rattle.nas_layout.specs.Layout.{Layout, elements, known, nothing_more, part}
 use Rattle.nas_layout.specs.declared.frame.Frame.TheVariants.{V, Lv, Lve}
 use Rattle.nas_layout.specs.Writing.{optional_tlve}
-use Rattle.mm_messages.specs.Parts.{follow_on, head, high_half, ksi_of, low_half, octet_in, registration_type_code, registration_type_of, result_in}
-use Rattle.mm_messages.specs.Rows.{fixed_row, tlv_row, tlve_row}
+use Rattle.nas_layout.specs.Parts.{high_half, low_half, octet_in}
+use Rattle.mm_messages.specs.Parts.{follow_on, head, ksi_of, registration_type_code, registration_type_of, result_in}
+use Rattle.nas_layout.specs.Rows.{fixed_row, tlv_row, tlve_row}
 use Rattle.mm_messages.specs.declared.message.Mm.{Mm}
 use Rattle.mm_messages.specs.declared.message.Mm.TheVariants.{RegistrationRequest, RegistrationAccept, RegistrationComplete, RegistrationReject}
 use Rattle.mm_messages.specs.declared.registration.RegistrationType.{RegistrationType}

@@ -8,8 +8,9 @@ use Rattle.nas_elements.specs.declared.asi.Asi.{Asi}
 use Rattle.nas_layout.specs.Layout.{Layout, elements, known, nothing_more, part}
 use Rattle.nas_layout.specs.declared.frame.Frame.TheVariants.{V, Lv}
 use Rattle.nas_layout.specs.Writing.{optional_tlve}
-use Rattle.mm_messages.specs.Parts.{container_in, head, ksi_of, low_half, octet_in}
-use Rattle.mm_messages.specs.Rows.{fixed_row, tlv_row, tlve_row}
+use Rattle.nas_layout.specs.Parts.{container_in, low_half, octet_in}
+use Rattle.mm_messages.specs.Parts.{head, ksi_of}
+use Rattle.nas_layout.specs.Rows.{fixed_row, tlv_row, tlve_row}
 use Rattle.mm_messages.specs.declared.message.Mm.{Mm}
 use Rattle.mm_messages.specs.declared.message.Mm.TheVariants.{SecurityModeCommand, SecurityModeComplete, SecurityModeReject}
 

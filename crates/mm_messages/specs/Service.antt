@@ -7,8 +7,9 @@ use Rattle.nas_elements.specs.Status.{status_in, status_octets}
 use Rattle.nas_elements.specs.declared.identity.Identity.{Identity}
 use Rattle.nas_layout.specs.Layout.{Layout, elements, known, part}
 use Rattle.nas_layout.specs.declared.frame.Frame.TheVariants.{V, Lve}
-use Rattle.mm_messages.specs.Parts.{head, high_half, ksi_of, low_half, octet_in}
-use Rattle.mm_messages.specs.Rows.{tlv_row}
+use Rattle.nas_layout.specs.Parts.{high_half, low_half, octet_in}
+use Rattle.mm_messages.specs.Parts.{head, ksi_of}
+use Rattle.nas_layout.specs.Rows.{tlv_row}
 use Rattle.mm_messages.specs.declared.message.Mm.{Mm}
 use Rattle.mm_messages.specs.declared.message.Mm.TheVariants.{ServiceRequest, ServiceReject, ServiceAccept}
 

@@ -2,7 +2,8 @@
 use Rattle.std.specs.Prelude.{ℕ, List, [], ◌∷◌, ◌++◌}
 use Rattle.nas_layout.specs.Layout.{Layout, nothing_more, part}
 use Rattle.nas_layout.specs.declared.frame.Frame.TheVariants.{V}
-use Rattle.mm_messages.specs.Parts.{head, octet_in}
+use Rattle.nas_layout.specs.Parts.{octet_in}
+use Rattle.mm_messages.specs.Parts.{head}
 use Rattle.mm_messages.specs.declared.message.Mm.{Mm}
 use Rattle.mm_messages.specs.declared.message.Mm.TheVariants.{FiveGmmStatus}
 

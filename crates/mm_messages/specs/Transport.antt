@@ -8,8 +8,9 @@ use Rattle.nas_layout.specs.Layout.{Layout, elements, known, part}
 use Rattle.nas_layout.specs.declared.frame.Frame.TheVariants.{V, Lve}
 use Rattle.nas_layout.specs.Half.{half_in}
 use Rattle.nas_layout.specs.Writing.{optional_half, optional_tv}
-use Rattle.mm_messages.specs.Parts.{container_in, head, low_half, octet_in, one_octet}
-use Rattle.mm_messages.specs.Rows.{fixed_row, half_row, tlv_row}
+use Rattle.nas_layout.specs.Parts.{container_in, low_half, octet_in, one_octet}
+use Rattle.mm_messages.specs.Parts.{head}
+use Rattle.nas_layout.specs.Rows.{fixed_row, half_row, tlv_row}
 use Rattle.mm_messages.specs.declared.message.Mm.{Mm}
 use Rattle.mm_messages.specs.declared.message.Mm.TheVariants.{UlNasTransport, DlNasTransport}
 

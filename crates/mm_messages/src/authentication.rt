@@ -5,17 +5,19 @@ ghost use Rattle.nas_layout.specs.Layout.{Lays, laid};
 ghost use Rattle.mm_messages.specs.Authentication.{authentication_failure, authentication_failure_layout, authentication_request, authentication_request_layout, authentication_response, authentication_response_layout};
 
 use crate::message::{Mm, write_head};
-use crate::rows::{fixed_row, shape, tlv_row};
 use crate::{elements, parts};
 use nas_base::{Full, Ksi, MmKind, Reader, Writer, walk};
-use nas_layout::{Abba, BodyRefusal, lv, lv_size, tlv, tlv_size, tv, tv_size};
+use nas_layout::{
+    Abba, BodyRefusal, fixed_row, lv, lv_size, octet_part, shape, tlv, tlv_row, tlv_size, tv,
+    tv_size,
+};
 
 /// Reads what stands behind the head of an AUTHENTICATION REQUEST.
 #[tactic(auto, unfolding(crate::specs::Authentication::authentication_request_layout))]
 pub fn read_request(reader: &mut Reader) -> Result<Mm, BodyRefusal>
     ensures { Lays result (laid authentication_request_layout 1 reader.old) }
 {
-    let first = parts::octet(1, reader)?;
+    let first = octet_part(1, reader)?;
     let abba = parts::abba(2, reader)?;
     let found = walk(reader.left(), &shape(&[fixed_row(0x21, 17), tlv_row(0x20)]));
     Ok(Mm::AuthenticationRequest {
@@ -71,7 +73,7 @@ pub fn write_response(res_star: &Option<[u8; 16]>, out: &mut Writer) -> Result<(
 pub fn read_failure(reader: &mut Reader) -> Result<Mm, BodyRefusal>
     ensures { Lays result (laid authentication_failure_layout 1 reader.old) }
 {
-    let cause = parts::octet(1, reader)?;
+    let cause = octet_part(1, reader)?;
     let found = walk(reader.left(), &shape(&[tlv_row(0x30)]));
     Ok(Mm::AuthenticationFailure {
         cause,

@@ -3,9 +3,8 @@ ghost use Rattle.std.specs.Prelude.{◌≡◌, Ok};
 ghost use Rattle.mm_messages.specs.Messages.{mm_in, spelling};
 ghost use Rattle.mm_messages.specs.declared.message.Mm.TheVariants.{AuthenticationFailure, AuthenticationReject, AuthenticationRequest, AuthenticationResponse};
 
-use crate::element_laws;
 use nas_base::Ksi;
-use nas_layout::{Abba, abba_is_read_back};
+use nas_layout::{Abba, abba_is_read_back, element_laws};
 
 /// AUTHENTICATION REQUEST.
 #[tactic(auto, using(crate::proofs::AuthenticationBack::authentication_request_back))]

@@ -6,10 +6,11 @@ ghost use Rattle.mm_messages.specs.ConfigurationUpdate.{configuration_update_com
 
 use crate::elements;
 use crate::message::{Mm, write_head};
-use crate::rows::{fixed_row, half_row, shape, tlve_row};
 use nas_base::{Full, MmKind, Reader, Writer, walk};
 use nas_elements::Guti;
-use nas_layout::{BodyRefusal, Half, half_tv, half_tv_size, tlve, tlve_size};
+use nas_layout::{
+    BodyRefusal, Half, fixed_row, half_row, half_tv, half_tv_size, shape, tlve, tlve_row, tlve_size,
+};
 
 /// Reads what stands behind the head of a CONFIGURATION UPDATE COMMAND.
 #[tactic(auto, unfolding(crate::specs::ConfigurationUpdate::configuration_update_command_layout))]

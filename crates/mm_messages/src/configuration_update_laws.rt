@@ -3,9 +3,8 @@ ghost use Rattle.std.specs.Prelude.{◌≡◌, Ok};
 ghost use Rattle.mm_messages.specs.Messages.{mm_in, spelling};
 ghost use Rattle.mm_messages.specs.declared.message.Mm.TheVariants.{ConfigurationUpdateCommand, ConfigurationUpdateComplete};
 
-use crate::element_laws;
 use nas_elements::Guti;
-use nas_layout::Half;
+use nas_layout::{Half, element_laws};
 
 /// CONFIGURATION UPDATE COMMAND.
 #[tactic(auto, using(crate::proofs::ConfigurationUpdateBack::configuration_update_command_back))]

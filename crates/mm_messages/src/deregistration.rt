@@ -5,13 +5,11 @@ ghost use Rattle.nas_layout.specs.Layout.{Lays, laid};
 ghost use Rattle.mm_messages.specs.Deregistration.{deregistration_request_ue_originating, deregistration_request_ue_originating_layout, deregistration_request_ue_terminated, deregistration_request_ue_terminated_layout};
 ghost use Rattle.mm_messages.specs.Parts.{deregistration_code};
 
-use crate::halves::two_halves;
 use crate::message::{Mm, write_head};
-use crate::rows::{fixed_row, shape};
 use crate::{elements, parts};
 use nas_base::{Full, Ksi, MmKind, Reader, Writer, walk};
-use nas_elements::Identity;
-use nas_layout::{BodyRefusal, lve, lve_size, tv, tv_size};
+use nas_elements::{Identity, two_halves};
+use nas_layout::{BodyRefusal, fixed_row, lve, lve_size, octet_part, shape, tv, tv_size};
 use std::alloc::Global;
 
 // Switch off: bit 4 of the de-registration type.
@@ -29,7 +27,7 @@ fn code_of(switch_off: bool) -> u8
 pub fn read_request_of_handset(alloc: Global, reader: &mut Reader) -> Result<Mm, BodyRefusal>
     ensures { Lays result (laid deregistration_request_ue_originating_layout 1 reader.old) }
 {
-    let first = parts::octet(1, reader)?;
+    let first = octet_part(1, reader)?;
     let identity = parts::identity(alloc, 2, reader)?;
     Ok(Mm::DeregistrationRequestUeOriginating {
         switch_off: first % 16 >= SWITCH_OFF,
@@ -59,7 +57,7 @@ pub fn write_request_of_handset(
 pub fn read_request_of_network(reader: &mut Reader) -> Result<Mm, BodyRefusal>
     ensures { Lays result (laid deregistration_request_ue_terminated_layout 1 reader.old) }
 {
-    let first = parts::octet(1, reader)?;
+    let first = octet_part(1, reader)?;
     let found = walk(reader.left(), &shape(&[fixed_row(0x58, 2)]));
     Ok(Mm::DeregistrationRequestUeTerminated {
         switch_off: first % 16 >= SWITCH_OFF,

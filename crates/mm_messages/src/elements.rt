@@ -2,21 +2,19 @@
 ghost use Rattle.std.specs.Prelude.{◌≡◌};
 ghost use Rattle.nas_elements.specs.Asi.{asi_in};
 ghost use Rattle.nas_elements.specs.Capability.{capability_in};
-ghost use Rattle.nas_elements.specs.Dnn.{dnn_in};
 ghost use Rattle.nas_elements.specs.Guti.{guti_in};
 ghost use Rattle.nas_elements.specs.Nssai.{nssai_in};
-ghost use Rattle.nas_elements.specs.Slice.{slice_in};
 ghost use Rattle.nas_elements.specs.Status.{status_in};
 ghost use Rattle.nas_elements.specs.TaiList.{tai_list_in};
 ghost use Rattle.nas_elements.specs.Timer3.{timer3_in};
 ghost use Rattle.nas_layout.specs.Half.{half_in};
 ghost use Rattle.nas_layout.specs.Layout.{known};
-ghost use Rattle.mm_messages.specs.Parts.{container_in, exactly, octet_in};
-ghost use Rattle.mm_messages.specs.Elements.{IsRead};
+ghost use Rattle.nas_layout.specs.Parts.{container_in, exactly, octet_in};
+ghost use Rattle.nas_layout.specs.Elements.{IsRead};
 
-use nas_base::{Elements, Octets, OctetsRefusal};
-use nas_elements::{Asi, Capability, Dnn, Guti, Nssai, Slice, Status, TaiList, Timer3};
-use nas_layout::{BodyRefusal, Half};
+use nas_base::{Elements, Octets};
+use nas_elements::{Asi, Capability, Guti, Nssai, Status, TaiList, Timer3};
+use nas_layout::{BodyRefusal, Half, known_container, known_half, known_octet};
 use std::alloc::Global;
 
 /// Allowed NSSAI (TS 24.501 clause 9.11.3.37).
@@ -24,20 +22,6 @@ pub fn allowed_nssai(found: &Elements) -> Option<Nssai>
     ensures { result ≡ known 0x15 nssai_in found.now }
 {
     Nssai::read(found.get(0x15)?).ok()
-}
-
-/// S-NSSAI (TS 24.501 clause 9.11.2.8).
-pub fn slice(found: &Elements) -> Option<Slice>
-    ensures { result ≡ known 0x22 slice_in found.now }
-{
-    Slice::read(found.get(0x22)?).ok()
-}
-
-/// DNN (TS 24.501 clause 9.11.2.1B).
-pub fn dnn(found: &Elements) -> Option<Dnn>
-    ensures { result ≡ known 0x25 dnn_in found.now }
-{
-    Dnn::read(found.get(0x25)?).ok()
 }
 
 /// UE security capability (TS 24.501 clause 9.11.3.54).
@@ -86,34 +70,28 @@ pub fn guti(found: &Elements) -> Option<Guti>
 pub fn request_type(found: &Elements) -> Option<Half>
     ensures { result ≡ known 0x80 half_in found.now }
 {
-    Half::read(found.get(0x80)?).ok()
+    known_half(0x80, found)
 }
 
 /// Configuration update indication (TS 24.501 clause 9.11.3.18).
 pub fn indication(found: &Elements) -> Option<Half>
     ensures { result ≡ known 0xd0 half_in found.now }
 {
-    Half::read(found.get(0xd0)?).ok()
+    known_half(0xd0, found)
 }
 
 /// PDU session identity (TS 24.501 clause 9.11.3.41).
 pub fn psi(found: &Elements) -> Option<u8>
     ensures { result ≡ known 0x12 octet_in found.now }
 {
-    match found.get(0x12)? {
-        [octet, ..] => Some(*octet),
-        [] => Some(0),
-    }
+    known_octet(0x12, found)
 }
 
 /// 5GMM cause (TS 24.501 clause 9.11.3.2).
 pub fn cause(found: &Elements) -> Option<u8>
     ensures { result ≡ known 0x58 octet_in found.now }
 {
-    match found.get(0x58)? {
-        [octet, ..] => Some(*octet),
-        [] => Some(0),
-    }
+    known_octet(0x58, found)
 }
 
 /// AUTN (TS 24.501 clause 9.11.3.15).
@@ -152,12 +130,5 @@ pub fn auts(found: &Elements) -> Option<[u8; 14]>
 pub fn message(alloc: Global, found: &Elements) -> Result<Option<Octets>, BodyRefusal>
     ensures { IsRead result (known 0x71 container_in found.now) }
 {
-    let Some(octets) = found.get(0x71) else {
-        return Ok(None);
-    };
-    match Octets::copy(alloc, octets) {
-        Ok(octets) => Ok(Some(octets)),
-        Err(OctetsRefusal::TooMany { size: _ }) => Ok(None),
-        Err(OctetsRefusal::Memory) => Err(BodyRefusal::Memory),
-    }
+    known_container(alloc, 0x71, found)
 }

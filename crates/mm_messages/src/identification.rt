@@ -8,7 +8,7 @@ use crate::message::{Mm, write_head};
 use crate::parts;
 use nas_base::{Full, MmKind, Reader, Writer};
 use nas_elements::Identity;
-use nas_layout::{BodyRefusal, Half, lve, lve_size};
+use nas_layout::{BodyRefusal, Half, lve, lve_size, octet_part};
 use std::alloc::Global;
 
 /// Reads what stands behind the head of an IDENTITY REQUEST.
@@ -16,7 +16,7 @@ use std::alloc::Global;
 pub fn read_request(reader: &mut Reader) -> Result<Mm, BodyRefusal>
     ensures { Lays result (laid identity_request_layout 1 reader.old) }
 {
-    let first = parts::octet(1, reader)?;
+    let first = octet_part(1, reader)?;
     Ok(Mm::IdentityRequest {
         identity_type: Half(first % 16),
     })

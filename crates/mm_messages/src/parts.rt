@@ -5,19 +5,12 @@ ghost use Rattle.nas_elements.specs.Identity.{identity_in};
 ghost use Rattle.nas_layout.specs.Abba.{abba_in};
 ghost use Rattle.nas_layout.specs.Layout.{Takes, part_at};
 ghost use Rattle.nas_layout.specs.declared.frame.Frame.TheVariants.{V, Lv, Lve};
-ghost use Rattle.mm_messages.specs.Parts.{container_in, octet_in, result_in};
+ghost use Rattle.mm_messages.specs.Parts.{result_in};
 
-use nas_base::{Octets, OctetsRefusal, Reader};
+use nas_base::Reader;
 use nas_elements::{Algs, Capability, Identity, IdentityRefusal};
 use nas_layout::{Abba, BodyRefusal, Frame, cut, value};
 use std::alloc::Global;
-
-/// One octet.
-pub fn octet(part: u8, reader: &mut Reader) -> Result<u8, BodyRefusal>
-    ensures { Takes result reader.new (part_at part (V 1) octet_in reader.old) }
-{
-    Ok(cut(part, Frame::V(1), reader)?[0])
-}
 
 /// A mobile identity behind its length of two octets.
 pub fn identity(alloc: Global, part: u8, reader: &mut Reader) -> Result<Identity, BodyRefusal>
@@ -28,18 +21,6 @@ pub fn identity(alloc: Global, part: u8, reader: &mut Reader) -> Result<Identity
         Ok(identity) => Ok(identity),
         Err(IdentityRefusal::Wrong { at: _ }) => Err(BodyRefusal::Mandatory { part, at }),
         Err(IdentityRefusal::Memory) => Err(BodyRefusal::Memory),
-    }
-}
-
-/// A container of any octets behind its length of two octets.
-pub fn container(alloc: Global, part: u8, reader: &mut Reader) -> Result<Octets, BodyRefusal>
-    ensures { Takes result reader.new (part_at part Lve container_in reader.old) }
-{
-    let at = reader.place();
-    match Octets::copy(alloc, cut(part, Frame::Lve, reader)?) {
-        Ok(octets) => Ok(octets),
-        Err(OctetsRefusal::TooMany { size: _ }) => Err(BodyRefusal::Mandatory { part, at }),
-        Err(OctetsRefusal::Memory) => Err(BodyRefusal::Memory),
     }
 }
 

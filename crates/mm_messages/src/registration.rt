@@ -5,13 +5,14 @@ ghost use Rattle.nas_layout.specs.Layout.{Lays, laid};
 ghost use Rattle.mm_messages.specs.Parts.{registration_type_code, registration_type_of};
 ghost use Rattle.mm_messages.specs.Registration.{registration_accept, registration_accept_layout, registration_reject, registration_reject_layout, registration_request, registration_request_layout};
 
-use crate::halves::two_halves;
 use crate::message::{Mm, write_head};
-use crate::rows::{fixed_row, shape, tlv_row, tlve_row};
 use crate::{elements, parts};
 use nas_base::{Full, Ksi, MmKind, Reader, Writer, walk};
-use nas_elements::{Capability, Guti, Identity, Nssai, Status, TaiList, Timer3};
-use nas_layout::{BodyRefusal, lve, lve_size, tlv, tlv_size, tlve, tlve_size};
+use nas_elements::{Capability, Guti, Identity, Nssai, Status, TaiList, Timer3, two_halves};
+use nas_layout::{
+    BodyRefusal, fixed_row, lve, lve_size, octet_part, shape, tlv, tlv_row, tlv_size, tlve,
+    tlve_row, tlve_size,
+};
 use std::alloc::Global;
 
 // A follow-on request is pending: bit 4 beside the registration type.
@@ -61,7 +62,7 @@ impl RegistrationType {
 pub fn read_request(alloc: Global, reader: &mut Reader) -> Result<Mm, BodyRefusal>
     ensures { Lays result (laid registration_request_layout 1 reader.old) }
 {
-    let first = parts::octet(1, reader)?;
+    let first = octet_part(1, reader)?;
     let identity = parts::identity(alloc, 2, reader)?;
     let found = walk(
         reader.left(),
@@ -107,7 +108,7 @@ pub fn read_accept(reader: &mut Reader) -> Result<Mm, BodyRefusal>
 pub fn read_reject(reader: &mut Reader) -> Result<Mm, BodyRefusal>
     ensures { Lays result (laid registration_reject_layout 1 reader.old) }
 {
-    let cause = parts::octet(1, reader)?;
+    let cause = octet_part(1, reader)?;
     Ok(Mm::RegistrationReject { cause })
 }
 

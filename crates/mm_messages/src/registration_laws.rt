@@ -3,12 +3,12 @@ ghost use Rattle.std.specs.Prelude.{◌≡◌, Ok};
 ghost use Rattle.mm_messages.specs.Messages.{mm_in, spelling};
 ghost use Rattle.mm_messages.specs.declared.message.Mm.TheVariants.{RegistrationAccept, RegistrationComplete, RegistrationReject, RegistrationRequest};
 
-use crate::{RegistrationType, element_laws};
+use crate::RegistrationType;
 use nas_base::Ksi;
 use nas_elements::{
     Capability, Guti, Identity, Nssai, Status, TaiList, Timer3, identity_is_read_back,
 };
-use nas_layout::Written;
+use nas_layout::{Written, element_laws};
 
 /// REGISTRATION REQUEST.
 #[tactic(auto, using(crate::proofs::RegistrationBack::registration_request_back))]
@@ -44,7 +44,7 @@ pub fn accept(
     element_laws::tai_list(tai_list);
     element_laws::nssai(nssai);
     element_laws::status(status);
-    element_laws::t3512(t3512);
+    element_laws::timer3(t3512);
 }
 
 /// REGISTRATION COMPLETE.

@@ -5,11 +5,13 @@ ghost use Rattle.nas_layout.specs.Layout.{Lays, laid};
 ghost use Rattle.mm_messages.specs.SecurityMode.{security_mode_command, security_mode_command_layout, security_mode_complete, security_mode_complete_layout, security_mode_reject, security_mode_reject_layout};
 
 use crate::message::{Mm, write_head};
-use crate::rows::{fixed_row, shape, tlv_row, tlve_row};
 use crate::{elements, parts};
 use nas_base::{Full, Ksi, MmKind, Octets, Reader, Writer, walk};
 use nas_elements::{Algs, Asi, Capability};
-use nas_layout::{BodyRefusal, lv, lv_size, tlv, tlv_size, tlve, tlve_size};
+use nas_layout::{
+    BodyRefusal, fixed_row, lv, lv_size, octet_part, shape, tlv, tlv_row, tlv_size, tlve, tlve_row,
+    tlve_size,
+};
 use std::alloc::Global;
 
 /// Reads what stands behind the head of a SECURITY MODE COMMAND.
@@ -18,7 +20,7 @@ pub fn read_command(reader: &mut Reader) -> Result<Mm, BodyRefusal>
     ensures { Lays result (laid security_mode_command_layout 1 reader.old) }
 {
     let algs = parts::algs(1, reader)?;
-    let second = parts::octet(2, reader)?;
+    let second = octet_part(2, reader)?;
     let capability = parts::capability(3, reader)?;
     let found = walk(reader.left(), &shape(&[tlv_row(0x36), fixed_row(0x57, 2)]));
     Ok(Mm::SecurityModeCommand {
@@ -74,7 +76,7 @@ pub fn write_complete(message: &Option<Octets>, out: &mut Writer) -> Result<(), 
 pub fn read_reject(reader: &mut Reader) -> Result<Mm, BodyRefusal>
     ensures { Lays result (laid security_mode_reject_layout 1 reader.old) }
 {
-    let cause = parts::octet(1, reader)?;
+    let cause = octet_part(1, reader)?;
     Ok(Mm::SecurityModeReject { cause })
 }
 

@@ -3,9 +3,9 @@ ghost use Rattle.std.specs.Prelude.{◌≡◌, Ok};
 ghost use Rattle.mm_messages.specs.Messages.{mm_in, spelling};
 ghost use Rattle.mm_messages.specs.declared.message.Mm.TheVariants.{SecurityModeCommand, SecurityModeComplete, SecurityModeReject};
 
-use crate::element_laws;
 use nas_base::{Ksi, Octets};
 use nas_elements::{Algs, Asi, Capability, algs_are_read_back, capability_is_read_back};
+use nas_layout::element_laws;
 
 /// SECURITY MODE COMMAND.
 #[tactic(auto, using(crate::proofs::SecurityModeBack::security_mode_command_back))]
@@ -24,7 +24,7 @@ pub fn command(algs: Algs, ksi: Ksi, capability: &Capability, asi: &Option<Asi>)
 pub fn complete(message: &Option<Octets>)
     ensures { mm_in (spelling (SecurityModeComplete message.now)) ≡ Ok (SecurityModeComplete message.now) }
 {
-    element_laws::message(message);
+    element_laws::container(message);
 }
 
 /// SECURITY MODE REJECT.

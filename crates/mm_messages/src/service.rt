@@ -4,13 +4,11 @@ ghost use Rattle.nas_base.specs.Writing.{Writes};
 ghost use Rattle.nas_layout.specs.Layout.{Lays, laid};
 ghost use Rattle.mm_messages.specs.Service.{service_accept, service_accept_layout, service_reject, service_reject_layout, service_request, service_request_layout};
 
-use crate::halves::two_halves;
 use crate::message::{Mm, write_head};
-use crate::rows::{shape, tlv_row};
 use crate::{elements, parts};
 use nas_base::{Full, Ksi, MmKind, Reader, Writer, walk};
-use nas_elements::{Identity, Status};
-use nas_layout::{BodyRefusal, Half, lve, lve_size, tlv, tlv_size};
+use nas_elements::{Identity, Status, two_halves};
+use nas_layout::{BodyRefusal, Half, lve, lve_size, octet_part, shape, tlv, tlv_row, tlv_size};
 use std::alloc::Global;
 
 /// Reads what stands behind the head of a SERVICE REQUEST.
@@ -18,7 +16,7 @@ use std::alloc::Global;
 pub fn read_request(alloc: Global, reader: &mut Reader) -> Result<Mm, BodyRefusal>
     ensures { Lays result (laid service_request_layout 1 reader.old) }
 {
-    let first = parts::octet(1, reader)?;
+    let first = octet_part(1, reader)?;
     let identity = parts::identity(alloc, 2, reader)?;
     let found = walk(reader.left(), &shape(&[tlv_row(0x50)]));
     Ok(Mm::ServiceRequest {
@@ -52,7 +50,7 @@ pub fn write_request(
 pub fn read_reject(reader: &mut Reader) -> Result<Mm, BodyRefusal>
     ensures { Lays result (laid service_reject_layout 1 reader.old) }
 {
-    let cause = parts::octet(1, reader)?;
+    let cause = octet_part(1, reader)?;
     let found = walk(reader.left(), &shape(&[tlv_row(0x50)]));
     Ok(Mm::ServiceReject {
         cause,

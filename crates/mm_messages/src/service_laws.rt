@@ -3,10 +3,9 @@ ghost use Rattle.std.specs.Prelude.{◌≡◌, Ok};
 ghost use Rattle.mm_messages.specs.Messages.{mm_in, spelling};
 ghost use Rattle.mm_messages.specs.declared.message.Mm.TheVariants.{ServiceAccept, ServiceReject, ServiceRequest};
 
-use crate::element_laws;
 use nas_base::Ksi;
 use nas_elements::{Identity, Status, identity_is_read_back};
-use nas_layout::{Half, Written};
+use nas_layout::{Half, Written, element_laws};
 
 /// SERVICE REQUEST.
 #[tactic(auto, using(crate::proofs::ServiceBack::service_request_back))]

@@ -1,7 +1,8 @@
 //! Octets and the messages that they spell. These functions do nothing: their contracts are the laws.
 ghost use Rattle.std.specs.Prelude.{◌≡◌, ℕ, true, List, ◌++◌, Ok};
 ghost use Rattle.nas_base.specs.Walking.{RowParts, elements_in};
-ghost use Rattle.mm_messages.specs.FirstElements.{EndsInElements, are_repeated, is_walked_whole};
+ghost use Rattle.nas_layout.specs.FirstElements.{are_repeated, is_walked_whole};
+ghost use Rattle.mm_messages.specs.FirstElements.{EndsInElements};
 ghost use Rattle.mm_messages.specs.Messages.{SpellsMessage, mm_in};
 ghost use Rattle.mm_messages.specs.declared.message.Mm.{Mm};
 

@@ -4,13 +4,13 @@ ghost use Rattle.nas_base.specs.Writing.{Writes};
 ghost use Rattle.nas_layout.specs.Layout.{Lays, laid};
 ghost use Rattle.mm_messages.specs.Transport.{dl_nas_transport, dl_nas_transport_layout, ul_nas_transport, ul_nas_transport_layout};
 
+use crate::elements;
 use crate::message::{Mm, write_head};
-use crate::rows::{fixed_row, half_row, shape, tlv_row};
-use crate::{elements, parts};
 use nas_base::{Full, MmKind, Octets, Reader, Writer, walk};
 use nas_elements::{Dnn, Slice};
 use nas_layout::{
-    BodyRefusal, Half, half_tv, half_tv_size, lve, lve_size, tlv, tlv_size, tv, tv_size,
+    BodyRefusal, Half, container_part, fixed_row, half_row, half_tv, half_tv_size, known_dnn,
+    known_slice, lve, lve_size, octet_part, shape, tlv, tlv_row, tlv_size, tv, tv_size,
 };
 use std::alloc::Global;
 
@@ -19,8 +19,8 @@ use std::alloc::Global;
 pub fn read_ul(alloc: Global, reader: &mut Reader) -> Result<Mm, BodyRefusal>
     ensures { Lays result (laid ul_nas_transport_layout 1 reader.old) }
 {
-    let first = parts::octet(1, reader)?;
-    let container = parts::container(alloc, 2, reader)?;
+    let first = octet_part(1, reader)?;
+    let container = container_part(alloc, 2, reader)?;
     let found = walk(
         reader.left(),
         &shape(&[
@@ -36,8 +36,8 @@ pub fn read_ul(alloc: Global, reader: &mut Reader) -> Result<Mm, BodyRefusal>
         container,
         psi: elements::psi(&found),
         request_type: elements::request_type(&found),
-        slice: elements::slice(&found),
-        dnn: elements::dnn(&found),
+        slice: known_slice(&found),
+        dnn: known_dnn(&found),
     })
 }
 
@@ -75,8 +75,8 @@ pub fn write_ul(
 pub fn read_dl(alloc: Global, reader: &mut Reader) -> Result<Mm, BodyRefusal>
     ensures { Lays result (laid dl_nas_transport_layout 1 reader.old) }
 {
-    let first = parts::octet(1, reader)?;
-    let container = parts::container(alloc, 2, reader)?;
+    let first = octet_part(1, reader)?;
+    let container = container_part(alloc, 2, reader)?;
     let found = walk(
         reader.left(),
         &shape(&[fixed_row(0x12, 2), fixed_row(0x58, 2)]),

@@ -3,10 +3,9 @@ ghost use Rattle.std.specs.Prelude.{◌≡◌, Ok};
 ghost use Rattle.mm_messages.specs.Messages.{mm_in, spelling};
 ghost use Rattle.mm_messages.specs.declared.message.Mm.TheVariants.{DlNasTransport, UlNasTransport};
 
-use crate::element_laws;
 use nas_base::Octets;
 use nas_elements::{Dnn, Slice};
-use nas_layout::Half;
+use nas_layout::{Half, element_laws};
 
 /// UL NAS TRANSPORT.
 #[tactic(auto, using(crate::proofs::TransportBack::ul_nas_transport_back))]

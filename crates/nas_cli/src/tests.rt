@@ -409,7 +409,15 @@ fn octets_are_shown_or_told(rt: HostRuntime) -> Result<(), Fail> {
         ("7e0041", 13, "nas: octets 3\n"),
         ("7e02", 13, "nas: octets 2\n"),
         ("7e007f", 13, "nas: octets 2\n"),
-        ("2e0101d324", 13, "nas: octets 0\n"),
+        (
+            "2e0100cb7a000402000140",
+            0,
+            "5gsm cb psi 1 pti 0\n  7a 02000140\n",
+        ),
+        ("2e0101d324", 0, "5gsm d3 psi 1 pti 1\n  m 24\n"),
+        ("2e0101", 13, "nas: octets 3\n"),
+        ("2e010141", 13, "nas: octets 3\n"),
+        ("2f0101d324", 13, "nas: octets 0\n"),
         ("", 2, "nas: words\n"),
     ];
     for (hex, status, text) in table {

@@ -1,3 +1,5 @@
+pub mod AddressFronts
+pub mod AmbrLaws
 pub mod DnnLaws
 pub mod GrammarFronts
 pub mod GutiFronts

@@ -1,4 +1,6 @@
+pub mod Address
 pub mod Algs
+pub mod Ambr
 pub mod Asi
 pub mod Capability
 pub mod Dnn

@@ -1,6 +1,5 @@
 //! The temporary identities: 5G-GUTI and 5G-S-TMSI.
 ghost use Rattle.std.specs.Prelude.{◌≡◌};
-ghost use Rattle.byteorder.specs.Endian.{big_bytes};
 ghost use Rattle.nas_base.specs.Writing.{Writes};
 ghost use Rattle.nas_elements.specs.Guti.{guti_in, guti_octets, stmsi_in, stmsi_octets};
 ghost use Rattle.nas_elements.specs.Layout.{guti_layout, met, stmsi_layout};
@@ -8,6 +7,7 @@ ghost use Rattle.nas_elements.specs.Reads.{Reads};
 
 use crate::Wrong;
 use crate::layout::{Line, met_by};
+use crate::numbers::{in_four_octets, in_two_octets};
 use crate::packed::{plmn_of, plmn_to};
 use arrayvec::ArrayVec;
 use byteorder::{BigEndian, ByteOrder};
@@ -180,21 +180,4 @@ pub fn met_by_stmsi(octets: &[u8]) -> usize
         ],
         octets,
     )
-}
-
-// A number, its high octet first.
-fn in_two_octets(number: u16) -> [u8; 2]
-    ensures { result ≡ big_bytes 2 number }
-{
-    let mut octets = [0; 2];
-    BigEndian::write_u16(&mut octets, number);
-    octets
-}
-
-fn in_four_octets(number: u32) -> [u8; 4]
-    ensures { result ≡ big_bytes 4 number }
-{
-    let mut octets = [0; 4];
-    BigEndian::write_u32(&mut octets, number);
-    octets
 }

@@ -1,6 +1,8 @@
 //! What holds of every value. These functions do nothing: their contracts are the laws.
 ghost use Rattle.std.specs.Prelude.{◌≡◌, Some};
+ghost use Rattle.nas_elements.specs.Address.{address_in, address_octets};
 ghost use Rattle.nas_elements.specs.Algs.{algs_in, algs_octets};
+ghost use Rattle.nas_elements.specs.Ambr.{ambr_in, ambr_octets};
 ghost use Rattle.nas_elements.specs.Asi.{asi_in, asi_octets};
 ghost use Rattle.nas_elements.specs.Capability.{capability_in};
 ghost use Rattle.nas_elements.specs.Dnn.{dnn_in};
@@ -12,9 +14,11 @@ ghost use Rattle.nas_elements.specs.Status.{status_in, status_octets};
 ghost use Rattle.nas_elements.specs.Suci.{suci_in, suci_octets};
 ghost use Rattle.nas_elements.specs.TaiList.{tai_list_in};
 ghost use Rattle.nas_elements.specs.Timer3.{timer3_in, timer3_octets};
+ghost use Rattle.nas_elements.specs.declared.address.Address.TheVariants.{V4, V6, V4V6};
 
 use crate::{
-    Algs, Asi, Capability, Dnn, Guti, Identity, Nssai, Slice, Status, Stmsi, Suci, TaiList, Timer3,
+    Address, Algs, Ambr, Asi, Capability, Dnn, Guti, Identity, Nssai, Slice, Status, Stmsi, Suci,
+    TaiList, Timer3,
 };
 
 /// A capability that is written is read back.
@@ -114,4 +118,46 @@ pub fn slice_is_read_back(slice: &Slice)
     ensures { slice_in (slice_octets slice.now) ≡ Some slice.now }
 {
     let _slice = slice.copy();
+}
+
+/// A session AMBR that is written is read back.
+#[tactic(auto, using(crate::proofs::AmbrLaws::ambr_back))]
+pub fn ambr_is_read_back(ambr: Ambr)
+    ensures { ambr_in (ambr_octets ambr) ≡ Some ambr }
+{
+    let _down = ambr.down;
+    let _up = ambr.up;
+}
+
+/// A PDU address that is written is read back.
+pub fn address_is_read_back(address: &Address)
+    ensures { address_in (address_octets address.now) ≡ Some address.now }
+{
+    match address {
+        Address::V4(v4) => v4_is_read_back(v4),
+        Address::V6(v6) => v6_is_read_back(v6),
+        Address::V4V6(v6, v4) => v4v6_is_read_back(v6, v4),
+    }
+}
+
+#[tactic(auto, using(crate::proofs::AddressFronts::v4_back))]
+fn v4_is_read_back(v4: &[u8; 4])
+    ensures { address_in (address_octets (V4 v4.now)) ≡ Some (V4 v4.now) }
+{
+    let _first = v4[0];
+}
+
+#[tactic(auto, using(crate::proofs::AddressFronts::v6_back))]
+fn v6_is_read_back(v6: &[u8; 8])
+    ensures { address_in (address_octets (V6 v6.now)) ≡ Some (V6 v6.now) }
+{
+    let _first = v6[0];
+}
+
+#[tactic(auto, using(crate::proofs::AddressFronts::v4v6_back))]
+fn v4v6_is_read_back(v6: &[u8; 8], v4: &[u8; 4])
+    ensures { address_in (address_octets (V4V6 v6.now v4.now)) ≡ Some (V4V6 v6.now v4.now) }
+{
+    let _first = v6[0];
+    let _second = v4[0];
 }

@@ -1,6 +1,6 @@
 //! Octets, and what they read as, by the tables of the standard.
 
-use crate::{Algs, Asi, Capability, Status, TaiList, Timer3, Wrong};
+use crate::{Address, Algs, Ambr, Asi, Capability, Status, TaiList, Timer3, Wrong};
 use nas_base::{Psi, Writer};
 
 #[test]
@@ -142,4 +142,60 @@ fn reads_a_set_of_sessions(rt: HostRuntime) {
     }
     assert_eq!(rt; Status::read(&[]), Err(Wrong { at: 0 }));
     assert_eq!(rt; Status::read(&[0x02]), Err(Wrong { at: 1 }));
+}
+
+#[test]
+fn reads_a_session_ambr(rt: HostRuntime) {
+    let octets = [0x06, 0x03, 0xe8, 0x04, 0x00, 0xff, 0x00];
+    for (count, wanted) in [(0, Some(0)), (5, Some(5)), (6, None), (7, Some(6))] {
+        match Ambr::read(&octets[..count]) {
+            Ok(ambr) => {
+                assert!(rt; wanted.is_none());
+                assert_eq!(rt; (ambr.down_unit, ambr.down), (6, 1000));
+                assert_eq!(rt; (ambr.up_unit, ambr.up), (4, 255));
+                let mut out = Writer::new();
+                assert_eq!(rt; ambr.write(&mut out), Ok(()));
+                assert_eq!(rt; out.octets(), &octets[..count]);
+            }
+            Err(wrong) => assert_eq!(rt; Some(wrong.at), wanted),
+        }
+    }
+}
+
+#[test]
+fn reads_an_address(rt: HostRuntime) {
+    // What is read, and what is written for it, or the place where it is wrong.
+    let table: [(&[u8], Result<&[u8], usize>); 14] = [
+        (&[], Err(0)),
+        (&[0, 10, 45, 0, 2], Err(0)),
+        (&[4], Err(0)),
+        (&[1], Err(1)),
+        (&[1, 10, 45, 0], Err(4)),
+        (&[1, 10, 45, 0, 2], Ok(&[1, 10, 45, 0, 2])),
+        (&[0xf9, 10, 45, 0, 2], Ok(&[1, 10, 45, 0, 2])),
+        (&[1, 10, 45, 0, 2, 0], Err(5)),
+        (&[2, 1, 2, 3, 4, 5, 6, 7], Err(8)),
+        (
+            &[2, 1, 2, 3, 4, 5, 6, 7, 8],
+            Ok(&[2, 1, 2, 3, 4, 5, 6, 7, 8]),
+        ),
+        (&[2, 1, 2, 3, 4, 5, 6, 7, 8, 9], Err(9)),
+        (&[3, 1, 2, 3, 4, 5, 6, 7, 8, 10, 45, 0], Err(12)),
+        (
+            &[3, 1, 2, 3, 4, 5, 6, 7, 8, 10, 45, 0, 2],
+            Ok(&[3, 1, 2, 3, 4, 5, 6, 7, 8, 10, 45, 0, 2]),
+        ),
+        (&[3, 1, 2, 3, 4, 5, 6, 7, 8, 10, 45, 0, 2, 9], Err(13)),
+    ];
+    for (octets, wanted) in table {
+        match Address::read(octets) {
+            Ok(address) => {
+                let mut out = Writer::new();
+                assert_eq!(rt; address.write(&mut out), Ok(()));
+                assert_eq!(rt; Ok(out.octets()), wanted);
+                assert_eq!(rt; address.size(), out.octets().len());
+            }
+            Err(wrong) => assert_eq!(rt; Err(wrong.at), wanted),
+        }
+    }
 }

@@ -1,6 +1,10 @@
 pub mod Abba
+pub mod Elements
+pub mod FirstElements
 pub mod Half
 pub mod Laws
 pub mod Layout
+pub mod Parts
 pub mod Pieces
+pub mod Rows
 pub mod Writing

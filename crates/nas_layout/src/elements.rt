@@ -2,7 +2,49 @@
 
 use crate::{Counted, Written};
 use nas_base::{Full, Writer};
-use nas_elements::{Asi, Capability, Dnn, Guti, Identity, Nssai, Slice, Status, TaiList, Timer3};
+use nas_elements::{
+    Address, Ambr, Asi, Capability, Dnn, Guti, Identity, Nssai, Slice, Status, TaiList, Timer3,
+};
+
+impl Written for Address {
+    ghost use Rattle.nas_elements.specs.Address.{address_octets};
+
+    ghost octets = { address_octets };
+
+    fn size(&self) -> usize {
+        self.size()
+    }
+
+    fn write_to(&self, out: &mut Writer) -> Result<(), Full> {
+        self.write(out)
+    }
+}
+
+impl Counted for Address {
+    fn count(&self) -> u8 {
+        self.size() as u8
+    }
+}
+
+impl Written for Ambr {
+    ghost use Rattle.nas_elements.specs.Ambr.{ambr_octets};
+
+    ghost octets = { ambr_octets };
+
+    fn size(&self) -> usize {
+        6
+    }
+
+    fn write_to(&self, out: &mut Writer) -> Result<(), Full> {
+        self.write(out)
+    }
+}
+
+impl Counted for Ambr {
+    fn count(&self) -> u8 {
+        6
+    }
+}
 
 impl Written for Asi {
     ghost use Rattle.nas_elements.specs.Asi.{asi_octets};

@@ -1,12 +1,11 @@
 //! Writing the parts and elements of messages.
 ghost use Rattle.std.specs.Prelude.{◌≡◌, ◌≤◌, ◌+◌, ◌*◌, ℕ, length, option_map};
-ghost use Rattle.byteorder.specs.Endian.{big_bytes};
 ghost use Rattle.nas_base.specs.Writing.{Writes, lv, lve, optional_tlv};
 ghost use Rattle.nas_layout.specs.Writing.{optional_half, optional_tlve, optional_tv};
 
 use crate::{Counted, Half, Written};
-use byteorder::{BigEndian, ByteOrder};
 use nas_base::{Full, Writer};
+use nas_elements::in_two_octets;
 
 /// Writes the value behind its length of one octet (LV, TS 24.007 clause 11.2.1.1).
 ///
@@ -143,13 +142,4 @@ pub fn half_tv_size(value: &Option<Half>) -> usize
         None => 0,
         Some(_) => 1,
     }
-}
-
-// A number, its high octet first.
-fn in_two_octets(number: u16) -> [u8; 2]
-    ensures { result ≡ big_bytes 2 number }
-{
-    let mut octets = [0; 2];
-    BigEndian::write_u16(&mut octets, number);
-    octets
 }

@@ -1,6 +1,8 @@
 //! The calls of nas_elements:
 //!
+//!     read_address OCTETS
 //!     read_algs OCTETS
+//!     read_ambr OCTETS
 //!     read_asi OCTETS
 //!     read_capability OCTETS
 //!     read_dnn OCTETS
@@ -20,8 +22,8 @@
 use crate::words::{Refusal, octets, text};
 use nas_base::{Full, Writer};
 use nas_elements::{
-    Algs, Asi, Capability, Dnn, Guti, Identity, IdentityRefusal, Nssai, Slice, Status, Stmsi, Suci,
-    TaiList, Timer3, Wrong,
+    Address, Algs, Ambr, Asi, Capability, Dnn, Guti, Identity, IdentityRefusal, Nssai, Slice,
+    Status, Stmsi, Suci, TaiList, Timer3, Wrong,
 };
 use std::alloc::Global;
 
@@ -44,7 +46,9 @@ fn written(
     out: &mut Writer,
 ) -> Result<Result<Result<(), Full>, Wrong>, Refusal> {
     Ok(match call {
+        "read_address" => Address::read(given).map(|value| value.write(out)),
         "read_algs" => Algs::read(given).map(|value| value.write(out)),
+        "read_ambr" => Ambr::read(given).map(|value| value.write(out)),
         "read_asi" => Asi::read(given).map(|value| value.write(out)),
         "read_capability" => Capability::read(given).map(|value| value.write(out)),
         "read_dnn" => Dnn::read(given).map(|value| value.write(out)),

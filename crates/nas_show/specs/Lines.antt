@@ -12,7 +12,8 @@ use Rattle.nas_elements.specs.Packed.{two_halves}
 use Rattle.nas_elements.specs.Slice.{slice_octets}
 use Rattle.nas_elements.specs.Status.{status_octets}
 use Rattle.nas_elements.specs.Timer3.{timer3_octets}
-use Rattle.mm_messages.specs.Parts.{deregistration_code, follow_on, one_octet, registration_type_code}
+use Rattle.nas_layout.specs.Parts.{one_octet}
+use Rattle.mm_messages.specs.Parts.{deregistration_code, follow_on, registration_type_code}
 use Rattle.mm_messages.specs.declared.message.Mm.{Mm}
 use Rattle.mm_messages.specs.declared.message.Mm.TheVariants.{RegistrationRequest, RegistrationAccept, RegistrationReject, DeregistrationRequestUeOriginating, DeregistrationRequestUeTerminated, ServiceRequest, ServiceReject, ServiceAccept, ConfigurationUpdateCommand, AuthenticationRequest, AuthenticationResponse, AuthenticationFailure, IdentityRequest, IdentityResponse, SecurityModeCommand, SecurityModeComplete, SecurityModeReject, FiveGmmStatus, UlNasTransport, DlNasTransport, RegistrationComplete, DeregistrationAcceptUeOriginating, DeregistrationAcceptUeTerminated, ConfigurationUpdateComplete, AuthenticationReject}
 

@@ -14,7 +14,8 @@ use Rattle.nas_elements.specs.Timer3.{timer3_octets}
 use Rattle.nas_layout.specs.Writing.{optional_half, optional_tlve, optional_tv}
 use Rattle.mm_messages.specs.KindOf.{kind_of}
 use Rattle.mm_messages.specs.Messages.{spelling}
-use Rattle.mm_messages.specs.Parts.{deregistration_code, follow_on, head, one_octet, registration_type_code}
+use Rattle.nas_layout.specs.Parts.{one_octet}
+use Rattle.mm_messages.specs.Parts.{deregistration_code, follow_on, head, registration_type_code}
 use Rattle.mm_messages.specs.declared.message.Mm.{Mm}
 use Rattle.mm_messages.specs.declared.message.Mm.TheVariants.{RegistrationRequest, RegistrationAccept, RegistrationReject, DeregistrationRequestUeOriginating, DeregistrationRequestUeTerminated, ServiceRequest, ServiceReject, ServiceAccept, ConfigurationUpdateCommand, AuthenticationRequest, AuthenticationResponse, AuthenticationFailure, IdentityRequest, IdentityResponse, SecurityModeCommand, SecurityModeComplete, SecurityModeReject, FiveGmmStatus, UlNasTransport, DlNasTransport, RegistrationComplete, DeregistrationAcceptUeOriginating, DeregistrationAcceptUeTerminated, ConfigurationUpdateComplete, AuthenticationReject}
 use Rattle.nas_show.specs.Lines.{element_text, half_text, indication_label, lines, part_text, request_type_label}

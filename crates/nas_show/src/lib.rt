@@ -4,9 +4,11 @@
 mod laws;
 mod lines;
 mod pieces;
+mod session_lines;
+mod sessions;
 mod showing;
 #[cfg(test)]
 mod tests;
 
-pub use crate::laws::pieces_are_shown;
+pub use crate::laws::{pieces_are_shown, session_pieces_are_shown};
 pub use crate::showing::{ShowRefusal, show};

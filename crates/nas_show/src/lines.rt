@@ -1,5 +1,5 @@
 //! The lines of each message.
-ghost use Rattle.std.specs.Prelude.{◌≡◌, ◌<◌, ◌+◌, ◌*◌, ◌++◌, OnOk};
+ghost use Rattle.std.specs.Prelude.{◌≡◌, ◌++◌, OnOk};
 ghost use Rattle.mm_messages.specs.Parts.{deregistration_code, registration_type_code};
 ghost use Rattle.nas_show.specs.Lines.{lines};
 
@@ -9,6 +9,7 @@ use crate::pieces::{
 };
 use mm_messages::{Mm, RegistrationType};
 use nas_base::Memory;
+use nas_elements::two_halves;
 use std::alloc::Global;
 
 // A follow-on request is pending: bit 4 beside the registration type.
@@ -151,14 +152,6 @@ pub fn append_lines(alloc: Global, text: &mut Vec<u8>, message: &Mm) -> Result<(
         | Mm::ConfigurationUpdateComplete
         | Mm::AuthenticationReject => Ok(()),
     }
-}
-
-// An octet of two halves.
-fn two_halves(low: u8, high: u8) -> u8
-    requires { low + 16 * high < 256 }
-    ensures { result ≡ low + 16 * high }
-{
-    low + 16 * high
 }
 
 // The de-registration type, over 3GPP access.

@@ -5,6 +5,7 @@ ghost use Rattle.nas_show.specs.Shown.{Shows, frame_text, message_text, plain, s
 
 use crate::lines::append_lines;
 use crate::pieces::append;
+use crate::sessions::show_session;
 use mm_messages::{Mm, MmRefusal, decode_mm, kind_of};
 use nas_base::Memory;
 use std::alloc::Global;
@@ -12,21 +13,26 @@ use std::alloc::Global;
 /// Why octets are not shown.
 #[derive(Clone, Copy, Debug, PartialEq, Eq)]
 pub enum ShowRefusal {
-    /// They are neither a plain 5GMM message nor a protected one, which shows at the place `place`, counted from 0.
+    /// They are neither a 5GSM message, nor a plain 5GMM message, nor a protected one, which shows at the place `place`, counted
+    /// from 0.
     Octets { place: usize },
     /// There was no memory left.
     Memory,
 }
 
-/// The octets as text: a plain 5GMM message with a line for each part and each element, or the head of a protected one.
+/// The octets as text: a 5GSM message or a plain 5GMM message with a line for each part and each element, or the head of a
+/// protected one.
 ///
 /// # Errors
 ///
-/// `Octets` exactly where they are neither; or `Memory`.
+/// `Octets` exactly where they are none of these; or `Memory`.
 #[tactic(auto, unfolding(crate::specs::Shown::shown))]
 pub fn show(alloc: Global, octets: &[u8]) -> Result<Vec<u8>, ShowRefusal>
     ensures { Shows (λ text. text.items) result (shown octets.now) }
 {
+    if !octets.is_empty() && octets[0] == 0x2e {
+        return show_session(alloc, octets);
+    }
     if octets.is_empty() || octets[0] != 0x7e {
         return Err(ShowRefusal::Octets { place: 0 });
     }

@@ -24,6 +24,25 @@ fn shows_messages_and_frames(rt: HostRuntime) -> Result<(), Fail> {
         ("7e005e710000", "5gmm 5e\n  71 \n"),
         ("7e0058", "5gmm 58\n"),
         ("7e0401020304ff7e", "protected 4 mac 01020304 sn 255\n"),
+        (
+            "2e0100cb7a000402000140",
+            "5gsm cb psi 1 pti 0\n  7a 02000140\n",
+        ),
+        ("2e0101d324", "5gsm d3 psi 1 pti 1\n  m 24\n"),
+        // Identities that no session and no transaction have, and bits that are passed over.
+        (
+            "2effffc1ffff9aa9",
+            "5gsm c1 psi 255 pti 255\n  m ffff\n  9 02\n  a 09\n",
+        ),
+        (
+            "2e0101c211000901000631310101ff01060603e80603e82905010a2d0002220101790006012041010109250908696e7465726e6574",
+            "5gsm c2 psi 1 pti 1\n  m 11\n  m 000901000631310101ff01\n  m 060603e80603e8\n  29 010a2d0002\n  22 01\n  79 012041010109\n  25 08696e7465726e6574\n",
+        ),
+        (
+            "2e0200c97a000059247900005901",
+            "5gsm c9 psi 2 pti 0\n  59 24\n  7a \n",
+        ),
+        ("2e0101cc", "5gsm cc psi 1 pti 1\n"),
     ];
     for (given, text) in table {
         let octets = hex::decode(rt.alloc(), given).ok().ok_or("hex")?;
@@ -35,8 +54,14 @@ fn shows_messages_and_frames(rt: HostRuntime) -> Result<(), Fail> {
 
 #[test]
 fn tells_the_place_of_a_fault(rt: HostRuntime) -> Result<(), Fail> {
-    let table: [(&[u8], usize); 12] = [
-        (&[0x2e, 1, 1, 0xd3, 0x24], 0),
+    let table: [(&[u8], usize); 18] = [
+        (&[], 0),
+        (&[0x2e], 1),
+        (&[0x2e, 1, 1], 3),
+        (&[0x2e, 1, 1, 0x41], 3),
+        (&[0x2e, 1, 1, 0xd3], 4),
+        (&[0x2e, 1, 1, 0xc2, 0x11, 0, 0], 7),
+        (&[0x2e, 1, 1, 0xc2, 0x11, 0, 1, 9, 6, 1], 8),
         (&[0xff], 0),
         (&[0x7e], 1),
         (&[0x7e, 5], 1),

@@ -1,6 +1,7 @@
 //! The rows of a message's elements.
-ghost use Rattle.std.specs.Prelude.{◌≡◌, ◌≤◌, ◌⊎◌, length};
-ghost use Rattle.mm_messages.specs.Rows.{fixed_row, half_row, tlv_row, tlve_row};
+ghost use Rattle.std.specs.Prelude.{◌≡◌, ◌≤◌, true, length};
+ghost use Rattle.nas_base.specs.Walking.{is_row};
+ghost use Rattle.nas_layout.specs.Rows.{fixed_row, half_row, tlv_row, tlve_row};
 
 use nas_base::{Form, Row, Shape};
 
@@ -37,7 +38,7 @@ pub fn fixed_row(iei: u8, count: u8) -> Row
 
 /// An element of one octet, whose identifier is its high half.
 pub fn half_row(iei: u8) -> Row
-    requires { (iei ≡ 0x80) ⊎ (iei ≡ 0xd0) }
+    requires { is_row iei Form.Half ≡ true }
     ensures { result ≡ half_row iei }
 {
     Row {

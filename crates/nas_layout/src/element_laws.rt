@@ -1,5 +1,7 @@
 //! An element that may be absent is read back. These functions do nothing: their contracts are the laws.
 ghost use Rattle.std.specs.Prelude.{◌≡◌, ◌<◌, ◌≤◌, IfSome, length, option_map};
+ghost use Rattle.nas_elements.specs.Address.{address_in, address_octets};
+ghost use Rattle.nas_elements.specs.Ambr.{ambr_in, ambr_octets};
 ghost use Rattle.nas_elements.specs.Asi.{asi_in, asi_octets};
 ghost use Rattle.nas_elements.specs.Capability.{capability_in};
 ghost use Rattle.nas_elements.specs.Dnn.{dnn_in};
@@ -11,13 +13,32 @@ ghost use Rattle.nas_elements.specs.TaiList.{tai_list_in};
 ghost use Rattle.nas_elements.specs.Timer3.{timer3_in, timer3_octets};
 ghost use Rattle.nas_layout.specs.Layout.{read_as};
 
+use crate::Half;
 use nas_base::Octets;
 use nas_elements::{
-    Asi, Capability, Dnn, Guti, Nssai, Slice, Status, TaiList, Timer3, asi_is_read_back,
-    capability_is_read_back, dnn_is_read_back, guti_is_read_back, nssai_is_read_back,
-    slice_is_read_back, status_is_read_back, tai_list_is_read_back, timer3_is_read_back,
+    Address, Ambr, Asi, Capability, Dnn, Guti, Nssai, Slice, Status, TaiList, Timer3,
+    address_is_read_back, ambr_is_read_back, asi_is_read_back, capability_is_read_back,
+    dnn_is_read_back, guti_is_read_back, nssai_is_read_back, slice_is_read_back,
+    status_is_read_back, tai_list_is_read_back, timer3_is_read_back,
 };
-use nas_layout::Half;
+
+/// PDU address.
+pub fn address(address: &Option<Address>)
+    ensures { read_as address_in (option_map address_octets address.now) ≡ address.now }
+{
+    if let Some(address) = address {
+        address_is_read_back(address);
+    }
+}
+
+/// Session AMBR.
+pub fn ambr(ambr: &Option<Ambr>)
+    ensures { read_as ambr_in (option_map ambr_octets ambr.now) ≡ ambr.now }
+{
+    if let Some(ambr) = ambr {
+        ambr_is_read_back(*ambr);
+    }
+}
 
 /// Additional 5G security information.
 pub fn asi(information: &Option<Asi>)
@@ -91,12 +112,12 @@ pub fn tai_list(list: &Option<TaiList>)
     }
 }
 
-/// A t3512.
-pub fn t3512(t3512: &Option<Timer3>)
-    ensures { read_as timer3_in (option_map timer3_octets t3512.now) ≡ t3512.now }
+/// A timer.
+pub fn timer3(timer: &Option<Timer3>)
+    ensures { read_as timer3_in (option_map timer3_octets timer.now) ≡ timer.now }
 {
-    if let Some(t3512) = t3512 {
-        timer3_is_read_back(*t3512);
+    if let Some(timer) = timer {
+        timer3_is_read_back(*timer);
     }
 }
 
@@ -118,12 +139,12 @@ pub fn octets_14(octets: &Option<[u8; 14]>)
     }
 }
 
-/// A whole message.
-pub fn message(message: &Option<Octets>)
-    ensures { IfSome message.now (λ os. length os ≤ 4100) }
+/// Any octets.
+pub fn container(octets: &Option<Octets>)
+    ensures { IfSome octets.now (λ os. length os ≤ 4100) }
 {
-    if let Some(message) = message {
-        let _octets = &message.items;
+    if let Some(octets) = octets {
+        let _octets = &octets.items;
     }
 }
 

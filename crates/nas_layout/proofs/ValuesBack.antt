@@ -5,7 +5,7 @@ use Rattle.std.proofs.lemmas.Bool.Decides.{nat_tests}
 use Rattle.nas_elements.specs.Guti.{guti_octets}
 use Rattle.nas_elements.specs.declared.guti.Guti.{Guti}
 use Rattle.nas_layout.specs.Layout.{read_as}
-use Rattle.mm_messages.specs.Parts.{container_in, exactly, octet_in, one_octet}
+use Rattle.nas_layout.specs.Parts.{container_in, exactly, octet_in, one_octet}
 
 pub octet_back : (octet : Option ℕ) → read_as octet_in (option_map one_octet octet) ≡ octet
 octet_back None = refl
@@ -22,13 +22,13 @@ exactly_back n (Some octets) long = grind (arith, nat_tests)
 pub container_back : (octets : List ℕ) → length octets ≤ 4100 → container_in octets ≡ Some octets
 container_back octets size = grind (arith, nat_tests)
 
-pub message_back : (octets : Option (List ℕ)) → IfSome octets (λ os. length os ≤ 4100) → read_as container_in octets ≡ octets
-message_back None size = refl
-message_back (Some octets) size = container_back octets size
+pub container_known : (octets : Option (List ℕ)) → IfSome octets (λ os. length os ≤ 4100) → read_as container_in octets ≡ octets
+container_known None size = refl
+container_known (Some octets) size = container_back octets size
 
-pub message_long : (octets : Option (List ℕ)) → IfSome octets (λ os. length os ≤ 4100) → IfSome octets (λ os. length os < 2 ^ 16)
-message_long None size = tt
-message_long (Some octets) size = omega arith
+pub container_long : (octets : Option (List ℕ)) → IfSome octets (λ os. length os ≤ 4100) → IfSome octets (λ os. length os < 2 ^ 16)
+container_long None size = tt
+container_long (Some octets) size = omega arith
 
 pub guti_long : (guti : Option Guti) → IfSome (option_map guti_octets guti) (λ octets. length octets < 2 ^ 16)
 guti_long None = tt

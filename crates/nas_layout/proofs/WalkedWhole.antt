@@ -8,7 +8,7 @@ use Rattle.nas_base.specs.declared.shape.Form.{Form}
 use Rattle.nas_base.specs.declared.shape.Form.TheVariants.{Half, Fixed, Tlv, Tlve}
 use Rattle.nas_base.specs.Walking.{Element, Head, RowParts, cut, elements_in, elements_within, form_in, head_as, head_of, headed, identifier_in, size_of, start_of}
 use Rattle.nas_base.specs.WalkLaws.{AreRows}
-use Rattle.mm_messages.specs.FirstElements.{ends_after, ends_within, is_walked_whole}
+use Rattle.nas_layout.specs.FirstElements.{ends_after, ends_within, is_walked_whole}
 
 -- the size of an element that is there is told by its own octets
 size_there : (form : Form) (octets more : List ℕ) → size_of form octets ≤ length octets → size_of form (octets ++ more) ≡ size_of form octets

@@ -1,0 +1,9 @@
+pub mod Establishment
+pub mod FirstElements
+pub mod FlowDescriptions
+pub mod KindOf
+pub mod Messages
+pub mod Modification
+pub mod Parts
+pub mod Release
+pub mod StatusMessage
