@@ -6,4 +6,5 @@ pub mod Messages
 pub mod Modification
 pub mod Parts
 pub mod Release
+pub mod Session
 pub mod StatusMessage
