@@ -1,0 +1,17 @@
+pub mod Authentication
+pub mod Checks
+pub mod Commands
+pub mod Config
+pub mod Connection
+pub mod Delivery
+pub mod Deregistration
+pub mod Events
+pub mod Framing
+pub mod Identification
+pub mod Registration
+pub mod SecurityMode
+pub mod Service
+pub mod State
+pub mod Step
+pub mod Transport
+pub mod Work
