@@ -75,15 +75,15 @@ by_table Discard message w = w
 by_table Status43 message w = w
 by_table Status47 message w = w
 
-abbrev pub passed_message : Result Mm MmRefusal → List ℕ → Work → Work
-passed_message (Ok message) octets w = by_table (action message w) message w
-passed_message (Err (refusals.Ignored at)) octets w = w
-passed_message (Err (refusals.UnknownType n)) octets w = status 97 w
-passed_message (Err (refusals.Mandatory n at)) octets w = faulty octets w
-passed_message (Err refusals.Memory) octets w = w
+abbrev pub passed_read : Result Mm MmRefusal → List ℕ → Work → Work
+passed_read (Ok message) octets w = by_table (action message w) message w
+passed_read (Err (refusals.Ignored at)) octets w = w
+passed_read (Err (refusals.UnknownType n)) octets w = status 97 w
+passed_read (Err (refusals.Mandatory n at)) octets w = faulty octets w
+passed_read (Err refusals.Memory) octets w = w
 
 unfoldable pub passed : List ℕ → Work → Work
-passed octets w = passed_message (mm_in octets) octets w
+passed octets w = passed_read (mm_in octets) octets w
 
 -- The plain messages that are taken before secure exchange: those of the table, an IDENTITY REQUEST where it asks for the SUCI,
 -- and a reject unless its cause is from 72 to 86 (clause 4.4.4.2).
@@ -107,15 +107,18 @@ plain_by_table Status47 message w = w
 abbrev pub is_permitted_type : ℕ → Bool
 is_permitted_type code = per (mm_kind code) true permitted_ue
 
-abbrev pub plain_message : Result Mm MmRefusal → List ℕ → Work → Work
-plain_message (Ok message) octets w = when is_plain_allowed message then plain_by_table (action message w) message w else w
-plain_message (Err (refusals.Ignored at)) octets w = w
-plain_message (Err (refusals.UnknownType n)) octets w = status 97 w
-plain_message (Err (refusals.Mandatory n at)) octets w = when is_permitted_type (slice_index_or octets 2 0) then status 96 w else w
-plain_message (Err refusals.Memory) octets w = w
+abbrev pub plain_message : Mm → Work → Work
+plain_message message w = when is_plain_allowed message then plain_by_table (action message w) message w else w
+
+abbrev pub plain_read : Result Mm MmRefusal → List ℕ → Work → Work
+plain_read (Ok message) octets w = plain_message message w
+plain_read (Err (refusals.Ignored at)) octets w = w
+plain_read (Err (refusals.UnknownType n)) octets w = status 97 w
+plain_read (Err (refusals.Mandatory n at)) octets w = when is_permitted_type (slice_index_or octets 2 0) then status 96 w else w
+plain_read (Err refusals.Memory) octets w = w
 
 unfoldable pub plain : List ℕ → Work → Work
-plain octets w = when w.common.secure then w else plain_message (mm_in octets) octets w
+plain octets w = when w.common.secure then w else plain_read (mm_in octets) octets w
 
 -- a frame of header type 3, by the command inside
 abbrev pub new_context : Result Mm MmRefusal → List ℕ → Work → Work

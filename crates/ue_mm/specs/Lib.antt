@@ -8,6 +8,7 @@ pub mod Deregistration
 pub mod Events
 pub mod Framing
 pub mod Identification
+pub mod Outcome
 pub mod Registration
 pub mod SecurityMode
 pub mod Service

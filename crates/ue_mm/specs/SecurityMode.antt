@@ -15,8 +15,8 @@ use Rattle.ue_mm.specs.Checks.{Opened, counted, noted, opened, with_count}
 use Rattle.ue_mm.specs.Config.{HandsetValues}
 use Rattle.ue_mm.specs.Registration.{registration_request, told_sessions}
 use Rattle.ue_mm.specs.State.{is_deregistering, open_registration}
-use Rattle.ue_mm.specs.Work.{answer, ciphered_with_new_context, say, stop, tell}
-use Rattle.ue_mm.specs.declared.acts.Cover.TheVariants.{Under}
+use Rattle.ue_mm.specs.Work.{answer, say, stop, tell}
+use Rattle.ue_mm.specs.declared.acts.Cover.TheVariants.{CipheredWithNewContext}
 use Rattle.ue_mm.specs.declared.common.Pending.{Pending}
 use Rattle.ue_mm.specs.declared.outs.UeOut.TheVariants.{Abandon, Took}
 use Rattle.ue_mm.specs.declared.procedures.Phase.{Phase}
@@ -41,7 +41,7 @@ wanted_request wanted w =
 
 unfoldable pub completed : Option Asi → Work → Work
 completed information w =
-    say false (Under ciphered_with_new_context) (SecurityModeComplete (wanted_request (is_wanted information) w)) w
+    say false CipheredWithNewContext (SecurityModeComplete (wanted_request (is_wanted information) w)) w
 
 -- the capability that is told back is the handset's, and has the algorithms
 abbrev pub is_acceptable : Command → HandsetValues → Bool

@@ -10,7 +10,7 @@ use Rattle.ue_mm.specs.State.{Common}
 use Rattle.ue_mm.specs.declared.acts.Act.{Act}
 use Rattle.ue_mm.specs.declared.acts.Act.TheVariants.{Say, Tell}
 use Rattle.ue_mm.specs.declared.acts.Cover.{Cover}
-use Rattle.ue_mm.specs.declared.acts.Cover.TheVariants.{Plain, Under}
+use Rattle.ue_mm.specs.declared.acts.Cover.TheVariants.{Plain, IntegrityProtected, Ciphered}
 use Rattle.ue_mm.specs.declared.outs.UeOut.{UeOut}
 use Rattle.ue_mm.specs.declared.outs.UeOut.TheVariants.{Start, Stop}
 use Rattle.ue_mm.specs.declared.work.Work.{Work}
@@ -22,20 +22,9 @@ say fresh cover message w = record w { acts = w.acts ++ Say fresh cover message 
 abbrev pub tell : UeOut → Work → Work
 tell out w = record w { acts = w.acts ++ Tell out ∷ [] }
 
--- Security header types: integrity protected, integrity protected and ciphered, and the latter with a new context
--- (TS 24.501 clause 9.3.1).
-abbrev pub integrity_protected : ℕ
-integrity_protected = 1
-
-abbrev pub ciphered : ℕ
-ciphered = 2
-
-abbrev pub ciphered_with_new_context : ℕ
-ciphered_with_new_context = 4
-
 -- An answer is protected on a secure connection, and plain on any other (TS 24.501 clause 4.4.4.1).
 abbrev pub answer_cover : Common → Cover
-answer_cover c = when c.secure then Under ciphered else Plain
+answer_cover c = when c.secure then Ciphered else Plain
 
 abbrev pub answer : Mm → Work → Work
 answer message w = say false (answer_cover w.common) message w
@@ -46,7 +35,7 @@ status cause w = answer (FiveGmmStatus cause) w
 -- A request of the handset's own is integrity protected alone where a context is current, so that the network can read who asks,
 -- and plain where none is (clause 4.4.6). It is fresh where it is the first message of its connection.
 abbrev pub request_cover : Common → Cover
-request_cover c = per c.current Plain (λ (context : SecurityContext). Under integrity_protected)
+request_cover c = per c.current Plain (λ (context : SecurityContext). IntegrityProtected)
 
 abbrev pub request : Mm → Work → Work
 request message w = say (not w.common.connected) (request_cover w.common) message w

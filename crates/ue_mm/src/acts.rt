@@ -7,13 +7,16 @@ use nas_base::Memory;
 use std::alloc::Global;
 use std::marker::Model;
 
-/// What a message is sent under.
+/// How a message is sent: plain, or under the current context by its security header type (TS 24.501 clause 9.3.1).
 #[derive(Clone, Copy, PartialEq, Eq)]
 pub enum Cover {
-    /// Nothing: it is plain.
     Plain,
-    /// The current context, with this security header type, 1 to 4 (TS 24.501 clause 9.3.1).
-    Under(u8),
+    /// Header type 1.
+    IntegrityProtected,
+    /// Header type 2.
+    Ciphered,
+    /// Header type 4: ciphered, and the first message under a new context.
+    CipheredWithNewContext,
 }
 
 /// What a row says.

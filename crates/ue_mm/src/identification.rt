@@ -8,13 +8,14 @@ use mm_messages::Mm;
 use nas_base::mm_cause::PROTOCOL_ERROR_UNSPECIFIED;
 use nas_base::{Digits, Ksi, Memory};
 use nas_elements::{Guti, Identity, Suci};
+use nas_layout::Half;
 use nas_security::Context;
 
 // ngKSI 7: no key is available (TS 24.501 clause 9.11.3.32).
 const NO_KEY: Ksi = Ksi(7);
 
 // Type of identity SUCI (TS 24.501 clause 9.11.3.3).
-const SUCI: u8 = 1;
+const SUCI: Half = Half(1);
 
 /// The handset's SUCI under the null scheme, with routing indicator 0.
 pub fn suci_of(config: &HandsetConfig) -> Suci
@@ -63,7 +64,7 @@ pub fn ksi_of(current: &Option<Context>) -> Ksi
 impl Work {
     /// IDENTITY REQUEST.
     #[tactic(auto, unfolding(crate::specs::Identification::identity_requested, nas_base::specs::Branches::chosen))]
-    pub fn identity_requested(&mut self, identity_type: u8) -> Result<(), Memory>
+    pub fn identity_requested(&mut self, identity_type: Half) -> Result<(), Memory>
         ensures { OnOk result (self.new ≡ identity_requested identity_type self.old) }
     {
         if identity_type == SUCI {

@@ -10,13 +10,6 @@ use nas_base::{Memory, Moment};
 use nas_elements::Status;
 use nas_timers::{TimerId, deadline_after};
 
-/// Security header types (TS 24.501 clause 9.3.1).
-pub const INTEGRITY_PROTECTED: u8 = 1;
-
-pub const CIPHERED: u8 = 2;
-
-pub const CIPHERED_WITH_NEW_CONTEXT: u8 = 4;
-
 /// A step while it goes on: the moment and the sessions that it was given, what is kept, and what was said so far. It is worked on
 /// as a copy, so that want of memory leaves the state.
 #[derive(Drop)]
@@ -54,7 +47,7 @@ impl Work {
         ensures { result ≡ answer_cover self.now.common }
     {
         if self.common.secure {
-            Cover::Under(CIPHERED)
+            Cover::Ciphered
         } else {
             Cover::Plain
         }
@@ -81,7 +74,7 @@ impl Work {
         ensures { result ≡ request_cover self.now.common }
     {
         match self.common.current {
-            Some(_) => Cover::Under(INTEGRITY_PROTECTED),
+            Some(_) => Cover::IntegrityProtected,
             None => Cover::Plain,
         }
     }
