@@ -1,6 +1,6 @@
 //! The names of timers.
-ghost use Rattle.std.specs.Prelude.{◌≡◌};
-ghost use Rattle.nas_timers.specs.Names.{is_before, same_name};
+ghost use Rattle.std.specs.Prelude.{◌≡◌, true};
+ghost use Rattle.nas_timers.specs.Names.{is_before, is_name, same_name, session_of};
 
 use nas_base::Psi;
 
@@ -47,5 +47,20 @@ impl TimerId {
         ensures { result ≡ is_before self.now other.now }
     {
         self < other
+    }
+
+    // The number of its PDU session, or 0 where it has none. Whoever reads it knows that this is one of the names.
+    pub(crate) fn session(&self) -> u8
+        ensures session { result ≡ session_of self.now }
+        ensures named { is_name self.now ≡ true }
+    {
+        match *self {
+            TimerId::T3580(psi)
+            | TimerId::T3581(psi)
+            | TimerId::T3582(psi)
+            | TimerId::T3591(psi)
+            | TimerId::T3592(psi) => psi.0,
+            _ => 0,
+        }
     }
 }

@@ -95,10 +95,11 @@ impl Timers {
     pub fn start(&mut self, id: TimerId, at: Moment)
         ensures { self.new ≡ started id at self.old }
     {
+        let _session = id.session();
         let index = self.place_of(&id);
         let entry = Entry { id, at };
         if self.is_at(index, &id) {
-            self.entries.as_mut_slice()[index] = entry;
+            self.entries[index] = entry;
         } else {
             self.entries.insert(index, entry);
         }
