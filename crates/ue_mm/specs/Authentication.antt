@@ -21,7 +21,7 @@ abbrev pub is_same : Request → Request → Bool
 is_same one other =
     one.ksi == other.ksi && bytes_eq one.abba other.abba && bytes_eq one.rand other.rand && bytes_eq one.autn other.autn
 
--- the request is the one that was answered last
+-- the request is the one that was accepted last
 abbrev pub is_repeated : Option Stored → Request → Bool
 is_repeated stored r = per stored false (λ (s : Stored). is_same s.request r)
 
@@ -29,8 +29,8 @@ abbrev pub response : List ℕ → Work → Work
 response res_star w = answer (AuthenticationResponse (Some res_star)) w
 
 -- the ngKSI says that no key is to come of it, or is that of the current context
-abbrev pub is_ksi_in_use : Option SecurityContext → ℕ → Bool
-is_ksi_in_use current ksi = ksi == 7 || per current false (λ (context : SecurityContext). context.ksi == ksi)
+abbrev pub is_ksi_refused : Option SecurityContext → ℕ → Bool
+is_ksi_refused current ksi = ksi == 7 || per current false (λ (context : SecurityContext). context.ksi == ksi)
 
 -- KAMF of the challenge: the first six octets of AUTN are SQN XOR AK (TS 33.501 Annex A)
 abbrev pub kamf_of : HandsetValues → List ℕ → List ℕ → Request → List ℕ
@@ -39,10 +39,10 @@ kamf_of config ck ik r = kamf (kseaf (kausf ck ik config.plmn (take 6 r.autn)) c
 -- The challenge is accepted: its key waits for a command, the request is kept with its answer, and SQN_MS is its sequence number.
 abbrev pub accepted : Request → ℕ → List ℕ → List ℕ → List ℕ → Work → Work
 accepted r n res ck ik w =
-    let res_star : List ℕ = res_star ck ik w.common.config.plmn r.rand res in
+    let expected : List ℕ = res_star ck ik w.common.config.plmn r.rand res in
     let pending : Pending = record { challenge = record { sqn = n; rand = r.rand }; ksi = r.ksi; kamf = kamf_of w.common.config ck ik r } in
-    response res_star (start T3516
-    (record w { common = record w.common { sqn = n; pending = Some pending; stored = Some (record { request = r; res_star = res_star }) } }))
+    response expected (start T3516
+    (record w { common = record w.common { sqn = n; pending = Some pending; stored = Some (record { request = r; res_star = expected }) } }))
 
 abbrev pub failure : ℕ → Option (List ℕ) → Work → Work
 failure cause auts w = answer (AuthenticationFailure cause auts) w
@@ -58,7 +58,7 @@ answered (SynchFailure auts) r w = failure 21 (Some auts) w
 unfoldable pub challenged : Request → Work → Work
 challenged r w =
     when is_repeated w.common.stored r then per w.common.stored w (λ (s : Stored). response s.res_star w)
-    else (when is_ksi_in_use w.common.current r.ksi then failure 71 None w
+    else (when is_ksi_refused w.common.current r.ksi then failure 71 None w
     else answered (checked w.common.config.k w.common.config.opc r.rand r.autn w.common.sqn) r w)
 
 -- AUTHENTICATION REQUEST; without RAND or AUTN it is none

@@ -21,6 +21,6 @@ deregistered w =
     tell Clear (idle (stop T3521 (stop T3517 (stop T3516 (stop T3510
     (record w { phase = Deregistered; common = record w.common { stored = None } }))))))
 
--- the 5G-GUTI and the contexts are dropped too (clause 5.5.1.2.5)
+-- the 5G-GUTI and the contexts are dropped too (clauses 5.4.1.3.5, 5.5.1.2.5, 5.5.1.3.5 and 5.6.1.5)
 unfoldable pub erased : Work → Work
 erased w = record w { common = record w.common { guti = None; current = None; pending = None } }

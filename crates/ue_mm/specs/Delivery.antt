@@ -1,5 +1,5 @@
 -- What a handset makes of octets that reach it (TS 24.501 clauses 4.4.4.2 and 7).
-use Rattle.std.specs.Prelude.{ℕ, Bool, true, not, ◌==◌, ◌&&◌, ◌||◌, ◌%◌, List, length, drop, slice_index_or, nat_lt, Option, Some, None, Result, Ok, Err, if◌then◌else◌}
+use Rattle.std.specs.Prelude.{ℕ, Bool, true, false, not, ◌==◌, ◌&&◌, ◌||◌, ◌%◌, List, length, drop, slice_index_or, nat_lt, Option, Some, None, Result, Ok, Err, if◌then◌else◌}
 use Rattle.nas_base.specs.Branches.{per, when◌then◌else◌}
 use Rattle.nas_base.specs.Kinds.{mm_kind}
 use Rattle.nas_base.specs.declared.mm_kind.MmKind.{MmKind}
@@ -85,8 +85,8 @@ passed_read (Err refusals.Memory) octets w = w
 unfoldable pub passed : List ℕ → Work → Work
 passed octets w = passed_read (mm_in octets) octets w
 
--- The plain messages that are taken before secure exchange: those of the table, an IDENTITY REQUEST where it asks for the SUCI,
--- and a reject unless its cause is from 72 to 86 (clause 4.4.4.2).
+-- The plain messages that are taken before secure exchange (clause 4.4.4.2): those of the table, an IDENTITY REQUEST where it asks
+-- for the SUCI, and a reject unless its cause is from 72 to 86, which is a choice of this project.
 abbrev pub may_reject : ℕ → Bool
 may_reject cause = nat_lt cause 72 || nat_lt 86 cause
 
@@ -96,7 +96,7 @@ is_plain_allowed (RegistrationReject cause) = may_reject cause
 is_plain_allowed (ServiceReject cause status) = may_reject cause
 is_plain_allowed message = permitted_ue (kind_of message)
 
--- A plain one is taken or nothing is done: it is told no collision.
+-- Where the table says STATUS 98, a plain message is discarded.
 abbrev pub plain_by_table : Action → Mm → Work → Work
 plain_by_table Take message w = taken message w
 plain_by_table Status98 message w = w
@@ -105,7 +105,7 @@ plain_by_table Status43 message w = w
 plain_by_table Status47 message w = w
 
 abbrev pub is_permitted_type : ℕ → Bool
-is_permitted_type code = per (mm_kind code) true permitted_ue
+is_permitted_type code = per (mm_kind code) false permitted_ue
 
 abbrev pub plain_message : Mm → Work → Work
 plain_message message w = when is_plain_allowed message then plain_by_table (action message w) message w else w
@@ -127,12 +127,12 @@ new_context (Ok (SecurityModeCommand algs ksi capability information)) octets w 
 new_context read octets w = w
 
 -- a frame of header type 1, 2 or 4, under the current context
-abbrev pub under_current : SecurityContext → List ℕ → Work → Work
-under_current context octets w =
+abbrev pub frame_under_current : SecurityContext → List ℕ → Work → Work
+frame_under_current context octets w =
     per (opened context octets) w (λ (o : Opened). passed o.message (counted context o.count w))
 
 unfoldable pub protected : List ℕ → Work → Work
-protected octets w = per w.common.current w (λ (context : SecurityContext). under_current context octets w)
+protected octets w = per w.common.current w (λ (context : SecurityContext). frame_under_current context octets w)
 
 -- the security header type
 abbrev pub header_of : List ℕ → ℕ

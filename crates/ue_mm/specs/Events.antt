@@ -10,8 +10,8 @@ use Rattle.ue_mm.specs.declared.procedures.Phase.{Phase}
 use Rattle.ue_mm.specs.declared.procedures.Phase.TheVariants.{Deregistered, Registering, Registered, Serving, Deregistering}
 use Rattle.ue_mm.specs.declared.work.Work.{Work}
 
--- T3510, T3517 and T3521 end what they belong to, where it is open (TS 24.501 clauses 5.5.1.2.7, 5.6.1.7 and 5.5.2.2.6); T3516
--- ends the time that a repeated challenge gets the same answer (clause 5.4.1.3.3)
+-- T3510 and T3517 end what they belong to, where it is open, and T3521 does at its fifth expiry (TS 24.501 clauses 5.5.1.2.7,
+-- 5.5.1.3.7, 5.6.1.7 and 5.5.2.2.6). A timer that expires has stopped. T3516 ends the time that a repeated challenge gets the same answer (clause 5.4.1.3.3)
 abbrev pub registration_expired : Phase → Work → Work
 registration_expired (Registering r) w = registration_left r.kind w
 registration_expired Deregistered w = w
@@ -58,6 +58,6 @@ lost (Deregistering p) w = deregistered w
 unfoldable pub dropped : Work → Work
 dropped w = lost w.phase w
 
--- a restart leaves the configuration and SQN_MS, which are the card's
+-- a restart leaves the configuration, and SQN_MS, which the card keeps
 unfoldable pub restarted : Work → Work
 restarted w = erased (deregistered w)

@@ -9,15 +9,12 @@ use Rattle.nas_security.specs.Counts.{with_next}
 use Rattle.nas_security.specs.Frame.{frame}
 use Rattle.ue_mm.specs.declared.acts.Act.{Act}
 use Rattle.ue_mm.specs.declared.acts.Act.TheVariants.{Say, Tell}
-use Rattle.ue_mm.specs.declared.acts.Cover.TheVariants.{Plain, IntegrityProtected, Ciphered, CipheredWithNewContext}
+use Rattle.ue_mm.specs.declared.acts.Protection.TheVariants.{Plain, IntegrityProtected, Ciphered, CipheredWithNewContext}
+use Rattle.ue_mm.specs.declared.framing.Framed.{Framed}
 use Rattle.ue_mm.specs.declared.outs.UeOut.{UeOut}
 use Rattle.ue_mm.specs.declared.outs.UeOut.TheVariants.{Send}
 
--- the current context, whose counts the messages take, and what was sent and told so far
-pub record Framed : Type 0 where
-  pub current : Option SecurityContext
-  pub outs : List UeOut
-
+-- one more goes out
 abbrev pub framed_out : UeOut → Framed → Framed
 framed_out out f = record f { outs = f.outs ++ out ∷ [] }
 
@@ -46,7 +43,7 @@ abbrev pub framed_protected : List ℕ → ℕ → Bool → List ℕ → Framed 
 framed_protected supi header fresh message f =
     per f.current f (λ (context : SecurityContext). framed_under supi header fresh message context f)
 
--- by what it is sent under, with the security header type (TS 24.501 clause 9.3.1)
+-- by what it is sent under, with the security header type (TS 24.501 clause 9.3)
 unfoldable pub framed : List ℕ → Act → Framed → Framed
 framed supi (Tell out) f = framed_out out f
 framed supi (Say fresh Plain message) f = framed_plain fresh (spelling message) f

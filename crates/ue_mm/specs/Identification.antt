@@ -17,8 +17,7 @@ use Rattle.ue_mm.specs.declared.work.Work.{Work}
 abbrev pub suci_of : HandsetValues → SuciParts
 suci_of config = record { plmn = config.plmn; routing = 0 ∷ []; msin = msin_of config.plmn config.supi }
 
--- by its 5G-GUTI where it has one (TS 24.501 clause 5.5.1.2.2), in a service request by what the AMF's region needs of it
--- (clause 5.6.1.2)
+-- by its 5G-GUTI where it has one (TS 24.501 clause 5.5.1.2.2), in a service request by its 5G-S-TMSI (clause 5.6.1.2)
 abbrev pub identity_of : HandsetValues → Option Guti → Identity
 identity_of config guti = per guti (identities.Suci (suci_of config)) (λ (g : Guti). identities.Guti g)
 

@@ -1,6 +1,7 @@
 pub mod Authentication
 pub mod Checks
 pub mod Commands
+pub mod Common
 pub mod Config
 pub mod Connection
 pub mod Delivery

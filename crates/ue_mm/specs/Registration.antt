@@ -46,8 +46,8 @@ registering r w = start T3510 (record (connected (request (registration_request 
 unfoldable pub register : Kind → Work → Work
 register kind w = registering (began kind w) w
 
--- REGISTRATION ACCEPT: a 5G-GUTI in it is taken and its taking confirmed; in a registration the procedure ends, and the sessions
--- that the network doesn't tell are no more.
+-- REGISTRATION ACCEPT: a 5G-GUTI in it is taken and its taking confirmed; in a registration the procedure ends, and where the
+-- network tells sessions, all others are no more.
 abbrev pub named : Option Guti → Work → Work
 named guti w = per guti w (λ (g : Guti). answer RegistrationComplete (record w { common = record w.common { guti = Some g } }))
 

@@ -7,6 +7,9 @@ use Rattle.nas_base.specs.declared.state_words.MmWord.TheVariants as words
 use Rattle.nas_elements.specs.declared.guti.Guti.{Guti}
 use Rattle.nas_security.specs.Contexts.{SecurityContext}
 use Rattle.nas_security.specs.declared.challenges.Challenge.{Challenge}
+use Rattle.nas_timers.specs.declared.timer_id.TimerId.{TimerId}
+use Rattle.nas_timers.specs.declared.timer_id.TimerId.TheVariants.{T3510, T3517, T3521}
+use Rattle.ue_mm.specs.Common.{Common}
 use Rattle.ue_mm.specs.Config.{HandsetValues}
 use Rattle.ue_mm.specs.declared.procedures.Deregistration.{Deregistration}
 use Rattle.ue_mm.specs.declared.procedures.Phase.{Phase}
@@ -17,19 +20,6 @@ use Rattle.ue_mm.specs.declared.common.Stored.{Stored}
 use Rattle.ue_mm.specs.declared.state.UeMm.{UeMm}
 use Rattle.ue_mm.specs.declared.state.UeMm.TheVariants as states
 use Rattle.ue_mm.specs.declared.view.UeView.{UeView}
-
--- what it has in every state: the connection and whether messages were exchanged securely on it, the 5G-GUTI, the current
--- context, the key of a challenge that no command has taken into use, the challenge that was answered last with its answer, and
--- SQN_MS, the greatest sequence number that was accepted
-pub record Common : Type 0 where
-  pub config : HandsetValues
-  pub connected : Bool
-  pub secure : Bool
-  pub guti : Option Guti
-  pub current : Option SecurityContext
-  pub pending : Option Pending
-  pub stored : Option Stored
-  pub sqn : ℕ
 
 -- what it has in every state, and which state it is, with the procedure that is open in it
 pub record MmState : Type 0 where
@@ -71,6 +61,14 @@ is_deregistering (Registering procedure) = false
 is_deregistering Registered = false
 is_deregistering (Serving procedure) = false
 is_deregistering (Deregistering procedure) = true
+
+-- the timer of the procedure that is open
+abbrev pub timer_of : Phase → Option TimerId
+timer_of Deregistered = None
+timer_of (Registering procedure) = Some T3510
+timer_of Registered = None
+timer_of (Serving procedure) = Some T3517
+timer_of (Deregistering procedure) = Some T3521
 
 -- Registered, or in a procedure that leaves a handset so unless it is rejected
 abbrev pub is_registered : MmWord → Bool

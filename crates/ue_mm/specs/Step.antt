@@ -4,7 +4,8 @@ use Rattle.nas_security.specs.Contexts.{SecurityContext}
 use Rattle.ue_mm.specs.Commands.{commanded}
 use Rattle.ue_mm.specs.Delivery.{delivered}
 use Rattle.ue_mm.specs.Events.{dropped, expired, restarted}
-use Rattle.ue_mm.specs.Framing.{Framed, framed_all}
+use Rattle.ue_mm.specs.Framing.{framed_all}
+use Rattle.ue_mm.specs.declared.framing.Framed.{Framed}
 use Rattle.ue_mm.specs.State.{MmState, state_of}
 use Rattle.ue_mm.specs.Transport.{carried}
 use Rattle.ue_mm.specs.declared.inputs.StepRefusal.{StepRefusal}
@@ -17,7 +18,7 @@ use Rattle.ue_mm.specs.declared.work.Work.{Work}
 
 -- a step at its start
 abbrev pub started : MmState → ℕ → List Bool → Work
-started s now held = record { now = now; held = held; common = s.common; phase = s.phase; acts = [] }
+started s now held = record { moment = now; held = held; common = s.common; phase = s.phase; acts = [] }
 
 -- the row of an input
 unfoldable pub worked : UeInput → Work → Result Work StepRefusal

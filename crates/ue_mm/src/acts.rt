@@ -7,9 +7,9 @@ use nas_base::Memory;
 use std::alloc::Global;
 use std::marker::Model;
 
-/// How a message is sent: plain, or under the current context by its security header type (TS 24.501 clause 9.3.1).
+/// How a message is sent: plain, or under the current context by its security header type (TS 24.501 clause 9.3).
 #[derive(Clone, Copy, PartialEq, Eq)]
-pub enum Cover {
+pub enum Protection {
     Plain,
     /// Header type 1.
     IntegrityProtected,
@@ -25,7 +25,7 @@ pub enum Act {
     /// A message is to be sent; `fresh` where it is the first of its connection.
     Say {
         fresh: bool,
-        cover: Cover,
+        protection: Protection,
         message: Mm,
     },
     /// Somebody is told something.

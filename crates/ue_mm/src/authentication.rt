@@ -1,7 +1,7 @@
 //! Primary authentication.
 ghost use Rattle.std.specs.Prelude.{◌≡◌, ◌<◌, ◌^◌, OnOk};
 ghost use Rattle.milenage.specs.Checking.{SqnFits};
-ghost use Rattle.ue_mm.specs.Authentication.{accepted, answered, authentication_requested, challenged, failure, is_ksi_in_use, is_repeated, is_same, kamf_of, response};
+ghost use Rattle.ue_mm.specs.Authentication.{accepted, answered, authentication_requested, challenged, failure, is_ksi_refused, is_repeated, is_same, kamf_of, response};
 
 use crate::work::Work;
 use crate::{HandsetConfig, Pending, Stored};
@@ -67,8 +67,8 @@ fn kamf_of(config: &HandsetConfig, ck: &[u8; 16], ik: &[u8; 16], request: &Reque
 
 // Whether the ngKSI says that no key is to come of it, or is that of the current context.
 #[tactic(auto, unfolding(nas_base::specs::Branches::per))]
-fn is_ksi_in_use(current: &Option<Context>, ksi: Ksi) -> bool
-    ensures { result ≡ is_ksi_in_use current.now ksi }
+fn is_ksi_refused(current: &Option<Context>, ksi: Ksi) -> bool
+    ensures { result ≡ is_ksi_refused current.now ksi }
 {
     if ksi.0 == 7 {
         return true;
@@ -116,7 +116,7 @@ impl Work {
                 return self.respond(res_star);
             }
         }
-        if is_ksi_in_use(&self.common.current, request.ksi) {
+        if is_ksi_refused(&self.common.current, request.ksi) {
             return self.fail(NGKSI_ALREADY_IN_USE, None);
         }
         let config = &self.common.config;

@@ -8,7 +8,8 @@ use nas_elements::Guti;
 use nas_security::{Challenge, Context};
 use std::marker::Model;
 
-/// The key of a challenge that was accepted, until a SECURITY MODE COMMAND takes it into use (TS 33.501 clause 6.1.3.2).
+/// The key of a challenge that was accepted, until a SECURITY MODE COMMAND takes it into use: a partial native context
+/// (TS 33.501 clauses 3.1 and 6.1.3.2).
 #[derive(Clone, Copy)]
 pub struct Pending {
     pub challenge: Challenge,
@@ -41,7 +42,7 @@ pub struct Common {
 
 impl Model for Common {
     ghost use Rattle.std.specs.Prelude.{◌<◌, ◌^◌};
-    ghost use Rattle.ue_mm.specs.State.{Common as Kept};
+    ghost use Rattle.ue_mm.specs.Common.{Common as Kept};
 
     ghost Value = { Kept };
 

@@ -1,7 +1,7 @@
 //! What a handset makes of octets that reach it.
 ghost use Rattle.std.specs.Prelude.{◌≡◌, drop, slice_index_or, OnOk};
 ghost use Rattle.mm_messages.specs.Messages.{mm_in};
-ghost use Rattle.ue_mm.specs.Delivery.{action, by_table, delivered, faulty, header_of, is_permitted_type, is_plain_allowed, may_reject, new_context, passed, plain, plain_message, protected, taken, under_current};
+ghost use Rattle.ue_mm.specs.Delivery.{action, by_table, delivered, faulty, header_of, is_permitted_type, is_plain_allowed, may_reject, new_context, passed, plain, plain_message, protected, taken, frame_under_current};
 
 use crate::checks::open;
 use crate::security_mode::Command;
@@ -49,7 +49,7 @@ fn is_permitted_type(code: u8) -> bool
 {
     match MmKind::from_code(code) {
         Some(kind) => permitted_ue(kind),
-        None => true,
+        None => false,
     }
 }
 
@@ -104,7 +104,7 @@ impl Work {
     // A plain message by the table. It is taken, or nothing is done.
     #[tactic(auto, unfolding(nas_base::specs::Branches::chosen))]
     fn plain_message(&mut self, message: Mm) -> Result<(), Memory>
-        ensures { OnOk result (self.new ≡ plain_message (Ok message) [] self.old) }
+        ensures { OnOk result (self.new ≡ plain_message message self.old) }
     {
         if !is_plain_allowed(&message) {
             return Ok(());
@@ -145,14 +145,14 @@ impl Work {
         ensures { OnOk result (self.new ≡ protected octets.now self.old) }
     {
         match self.common.current {
-            Some(context) => self.under_current_context(alloc, &context, octets),
+            Some(context) => self.frame_under_current(alloc, &context, octets),
             None => Ok(()),
         }
     }
 
     #[tactic(auto, unfolding(nas_base::specs::Branches::per))]
-    fn under_current_context(&mut self, alloc: Global, context: &Context, octets: &[u8]) -> Result<(), Memory>
-        ensures { OnOk result (self.new ≡ under_current context.now octets.now self.old) }
+    fn frame_under_current(&mut self, alloc: Global, context: &Context, octets: &[u8]) -> Result<(), Memory>
+        ensures { OnOk result (self.new ≡ frame_under_current context.now octets.now self.old) }
     {
         let mut out = Writer::new();
         let Some(count) = open(context, octets, &mut out) else {

@@ -4,7 +4,7 @@ ghost use Rattle.mm_messages.specs.Messages.{spelling};
 ghost use Rattle.ue_mm.specs.Framing.{IsSpelled, framed, framed_all, framed_out, framed_plain, framed_protected};
 ghost use Rattle.ue_mm.specs.declared.outs.UeOut.TheVariants.{Send};
 
-use crate::acts::{Act, Acts, Cover};
+use crate::acts::{Act, Acts, Protection};
 use crate::{UeOut, UeOuts};
 use mm_messages::{Mm, encode_mm};
 use nas_base::{Dir, Memory, Octets, Supi, Writer};
@@ -16,12 +16,12 @@ const LONGEST: usize = 4089;
 
 /// The current context, whose counts the messages take, and what was sent and told so far.
 #[derive(Drop)]
-pub struct Framing {
+pub struct Framed {
     pub current: Option<Context>,
     pub outs: UeOuts,
 }
 
-impl Framing {
+impl Framed {
     /// What was said, one after the other.
     pub fn all(&mut self, alloc: Global, supi: &Supi, acts: Acts) -> Result<(), Memory>
         ensures { OnOk result (self.new ≡ framed_all supi.now acts self.old) }
@@ -41,13 +41,13 @@ impl Framing {
             Act::Tell(out) => self.outs.push(out),
             Act::Say {
                 fresh,
-                cover,
+                protection,
                 message,
-            } => match cover {
-                Cover::Plain => self.plain(alloc, fresh, &message),
-                Cover::IntegrityProtected => self.protected(alloc, supi, 1, fresh, &message),
-                Cover::Ciphered => self.protected(alloc, supi, 2, fresh, &message),
-                Cover::CipheredWithNewContext => self.protected(alloc, supi, 4, fresh, &message),
+            } => match protection {
+                Protection::Plain => self.plain(alloc, fresh, &message),
+                Protection::IntegrityProtected => self.protected(alloc, supi, 1, fresh, &message),
+                Protection::Ciphered => self.protected(alloc, supi, 2, fresh, &message),
+                Protection::CipheredWithNewContext => self.protected(alloc, supi, 4, fresh, &message),
             },
         }
     }

@@ -25,7 +25,7 @@ pub enum UeInput {
     Expired(TimerId),
     /// The connection is lost.
     Dropped,
-    /// The handset is switched off and on: all is lost but what its card keeps.
+    /// The handset is switched off and on: all is lost but its configuration, and SQN_MS, which the card keeps.
     Restart,
     /// A message of a PDU session is to be carried. One that asks for a new session names its data network.
     Carry {

@@ -22,6 +22,8 @@ mod security_mode;
 mod service;
 mod state;
 mod stepping;
+#[cfg(test)]
+mod tests;
 mod transport;
 mod view;
 mod work;

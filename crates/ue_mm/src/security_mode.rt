@@ -1,9 +1,9 @@
 //! Security mode control.
 ghost use Rattle.std.specs.Prelude.{◌≡◌, ◌≤◌, true, length, IfOk, OnOk};
 ghost use Rattle.nas_security.specs.Contexts.{AreInUse};
-ghost use Rattle.ue_mm.specs.SecurityMode.{are_served, commanded, completed, is_acceptable, is_wanted, made, picked_current, picked_pending, repeated, security_mode_commanded, served, taken, under_current, under_pending, wanted_request, whole_request};
+ghost use Rattle.ue_mm.specs.SecurityMode.{are_supported, command_passed, command_completed, is_acceptable, is_wanted, made, picked_current, picked_pending, command_repeated, security_mode_commanded, command_picked, taken_into_use, command_under_current, command_under_pending, wanted_request, whole_request};
 
-use crate::acts::Cover;
+use crate::acts::Protection;
 use crate::checks::{open, with_count};
 use crate::procedures::{Phase, Registration};
 use crate::registration::{registration_request, told_sessions};
@@ -29,8 +29,8 @@ pub struct Command {
 }
 
 // Whether the algorithms are 128-NIA2, and 128-NEA2 or no ciphering.
-fn are_served(algs: Algs) -> bool
-    ensures { result ≡ are_served algs }
+fn are_supported(algs: Algs) -> bool
+    ensures { result ≡ are_supported algs }
 {
     algs.nia == 2 && (algs.nea == 0 || algs.nea == 2)
 }
@@ -57,7 +57,7 @@ fn is_acceptable(command: &Command, config: &HandsetConfig) -> bool
 
 // The context of a pending key, with the keys of the algorithms and counts 0.
 fn made(pending: &Pending, algs: Algs) -> Context
-    requires { are_served algs ≡ true }
+    requires { are_supported algs ≡ true }
     ensures { result ≡ made pending.now algs }
 {
     Context {
@@ -93,24 +93,24 @@ impl Work {
     pub fn security_mode_commanded(&mut self, alloc: Global, command: &Command, octets: &[u8]) -> Result<(), Memory>
         ensures { OnOk result (self.new ≡ security_mode_commanded command.now octets.now self.old) }
     {
-        if !are_served(command.algs) {
+        if !are_supported(command.algs) {
             return Ok(());
         }
-        self.served(alloc, command, octets)
+        self.command_picked(alloc, command, octets)
     }
 
     // The ngKSI picks the pending key or the current context.
     #[tactic(auto, unfolding(nas_base::specs::Branches::per))]
-    fn served(&mut self, alloc: Global, command: &Command, octets: &[u8]) -> Result<(), Memory>
-        requires { are_served command.now.algs ≡ true }
-        ensures { OnOk result (self.new ≡ served command.now octets.now self.old) }
+    fn command_picked(&mut self, alloc: Global, command: &Command, octets: &[u8]) -> Result<(), Memory>
+        requires { are_supported command.now.algs ≡ true }
+        ensures { OnOk result (self.new ≡ command_picked command.now octets.now self.old) }
     {
         if let Some(pending) = self.picked_pending(command.ksi) {
             let context = made(&pending, command.algs);
-            return self.under_pending(alloc, command, &context, octets);
+            return self.command_under_pending(alloc, command, &context, octets);
         }
         match self.picked_current(command.ksi) {
-            Some(context) => self.under_current(alloc, command, &context, octets),
+            Some(context) => self.command_under_current(alloc, command, &context, octets),
             None => Ok(()),
         }
     }
@@ -142,21 +142,21 @@ impl Work {
 
     // The command under a pending key.
     #[tactic(auto, unfolding(nas_base::specs::Branches::per))]
-    fn under_pending(&mut self, alloc: Global, command: &Command, context: &Context, octets: &[u8]) -> Result<(), Memory>
-        ensures { OnOk result (self.new ≡ under_pending command.now context.now octets.now self.old) }
+    fn command_under_pending(&mut self, alloc: Global, command: &Command, context: &Context, octets: &[u8]) -> Result<(), Memory>
+        ensures { OnOk result (self.new ≡ command_under_pending command.now context.now octets.now self.old) }
     {
         let mut out = Writer::new();
         let Some(count) = open(context, octets, &mut out) else {
             return Ok(());
         };
         self.note(context, count)?;
-        self.commanded(alloc, command, with_count(count, *context))
+        self.command_passed(alloc, command, with_count(count, *context))
     }
 
     // A command that passed under a pending key.
-    #[tactic(auto, unfolding(crate::specs::SecurityMode::commanded, nas_base::specs::Branches::chosen))]
-    fn commanded(&mut self, alloc: Global, command: &Command, context: Context) -> Result<(), Memory>
-        ensures { OnOk result (self.new ≡ commanded command.now context self.old) }
+    #[tactic(auto, unfolding(crate::specs::SecurityMode::command_passed, nas_base::specs::Branches::chosen))]
+    fn command_passed(&mut self, alloc: Global, command: &Command, context: Context) -> Result<(), Memory>
+        ensures { OnOk result (self.new ≡ command_passed command.now context self.old) }
     {
         if is_acceptable(command, &self.common.config) {
             return self.take(alloc, command, context);
@@ -169,7 +169,7 @@ impl Work {
 
     // The context is taken into use.
     fn take(&mut self, alloc: Global, command: &Command, context: Context) -> Result<(), Memory>
-        ensures { OnOk result (self.new ≡ taken command.now context self.old) }
+        ensures { OnOk result (self.new ≡ taken_into_use command.now context self.old) }
     {
         self.common.secure = true;
         self.common.current = Some(context);
@@ -183,8 +183,8 @@ impl Work {
 
     // The command under the current context: it was sent again, since its answer was lost.
     #[tactic(auto, unfolding(nas_base::specs::Branches::chosen, nas_base::specs::Branches::per))]
-    fn under_current(&mut self, alloc: Global, command: &Command, context: &Context, octets: &[u8]) -> Result<(), Memory>
-        ensures { OnOk result (self.new ≡ under_current command.now context.now octets.now self.old) }
+    fn command_under_current(&mut self, alloc: Global, command: &Command, context: &Context, octets: &[u8]) -> Result<(), Memory>
+        ensures { OnOk result (self.new ≡ command_under_current command.now context.now octets.now self.old) }
     {
         let mut out = Writer::new();
         let Some(count) = open(context, octets, &mut out) else {
@@ -198,14 +198,14 @@ impl Work {
     }
 
     // SECURITY MODE COMPLETE.
-    #[tactic(auto, unfolding(crate::specs::SecurityMode::completed))]
+    #[tactic(auto, unfolding(crate::specs::SecurityMode::command_completed))]
     fn complete(&mut self, alloc: Global, information: &Option<Asi>) -> Result<(), Memory>
-        ensures { OnOk result (self.new ≡ completed information.now self.old) }
+        ensures { OnOk result (self.new ≡ command_completed information.now self.old) }
     {
         let message = self.wanted_request(alloc, is_wanted(information))?;
         self.say(
             false,
-            Cover::CipheredWithNewContext,
+            Protection::CipheredWithNewContext,
             Mm::SecurityModeComplete { message },
         )
     }

@@ -69,7 +69,7 @@ impl UeMm {
 
     // Equal parts: what it has in every state, and which state it is.
     pub(crate) fn parts(&self) -> (Common, Phase)
-        ensures { (record { common = result.1; phase = result.2 }) ≡ state_of self.now }
+        ensures { (record { common = result.0; phase = result.1 }) ≡ state_of self.now }
     {
         match self {
             UeMm::Deregistered(common) => (common.copy(), Phase::Deregistered),

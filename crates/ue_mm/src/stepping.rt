@@ -1,11 +1,11 @@
 //! One step of a handset's 5GMM.
-ghost use Rattle.std.specs.Prelude.{◌≡◌, OnOk};
+ghost use Rattle.std.specs.Prelude.{◌≡◌, IfOk};
 ghost use Rattle.ue_mm.specs.Outcome.{Works};
 ghost use Rattle.ue_mm.specs.State.{state_of};
 ghost use Rattle.ue_mm.specs.Step.{Steps, ended, started, step_of, worked};
 
 use crate::acts::Acts;
-use crate::framing::Framing;
+use crate::framing::Framed;
 use crate::work::Work;
 use crate::{StepRefusal, UeInput, UeMm, UeOuts};
 use nas_base::{Memory, Moment};
@@ -30,7 +30,7 @@ pub fn step(
 {
     let (common, phase) = state.parts();
     let mut work = Work {
-        now,
+        moment: now,
         held: *held,
         common,
         phase,
@@ -68,9 +68,9 @@ impl Work {
     // What was said is sent, and the state is what is kept.
     #[tactic(auto, unfolding(crate::specs::Step::ended))]
     fn end(self, alloc: Global) -> Result<(UeMm, UeOuts), Memory>
-        ensures { IfOk result (λ ended. record { state = state_of ended.1; outs = ended.2 } ≡ ended self) }
+        ensures { IfOk result (λ new. record { state = state_of new.0; outs = new.1 } ≡ ended self) }
     {
-        let mut framing = Framing {
+        let mut framing = Framed {
             current: self.common.current,
             outs: UeOuts::new(alloc),
         };

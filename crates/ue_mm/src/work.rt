@@ -1,8 +1,8 @@
 //! A step while it goes on.
 ghost use Rattle.std.specs.Prelude.{◌≡◌, OnOk};
-ghost use Rattle.ue_mm.specs.Work.{answer, answer_cover, request, request_cover, say, start, status, stop, tell};
+ghost use Rattle.ue_mm.specs.Work.{answer, answer_protection, request, request_protection, say, start, status, stop, tell};
 
-use crate::acts::{Act, Acts, Cover};
+use crate::acts::{Act, Acts, Protection};
 use crate::procedures::Phase;
 use crate::{Common, UeOut};
 use mm_messages::Mm;
@@ -14,7 +14,7 @@ use nas_timers::{TimerId, deadline_after};
 /// as a copy, so that want of memory leaves the state.
 #[derive(Drop)]
 pub struct Work {
-    pub now: Moment,
+    pub moment: Moment,
     /// The sessions whose word is Active, ModificationPending or InactivePending.
     pub held: Status,
     pub common: Common,
@@ -24,12 +24,12 @@ pub struct Work {
 
 impl Work {
     /// A message is to be sent.
-    pub fn say(&mut self, fresh: bool, cover: Cover, message: Mm) -> Result<(), Memory>
-        ensures { OnOk result (self.new ≡ say fresh cover message self.old) }
+    pub fn say(&mut self, fresh: bool, protection: Protection, message: Mm) -> Result<(), Memory>
+        ensures { OnOk result (self.new ≡ say fresh protection message self.old) }
     {
         self.acts.push(Act::Say {
             fresh,
-            cover,
+            protection,
             message,
         })
     }
@@ -43,13 +43,13 @@ impl Work {
 
     // What an answer is sent under.
     #[tactic(auto, unfolding(nas_base::specs::Branches::chosen))]
-    fn answer_cover(&self) -> Cover
-        ensures { result ≡ answer_cover self.now.common }
+    fn answer_protection(&self) -> Protection
+        ensures { result ≡ answer_protection self.now.common }
     {
         if self.common.secure {
-            Cover::Ciphered
+            Protection::Ciphered
         } else {
-            Cover::Plain
+            Protection::Plain
         }
     }
 
@@ -57,8 +57,8 @@ impl Work {
     pub fn answer(&mut self, message: Mm) -> Result<(), Memory>
         ensures { OnOk result (self.new ≡ answer message self.old) }
     {
-        let cover = self.answer_cover();
-        self.say(false, cover, message)
+        let protection = self.answer_protection();
+        self.say(false, protection, message)
     }
 
     /// 5GMM STATUS with this cause.
@@ -70,12 +70,12 @@ impl Work {
 
     // What a request of the handset's own is sent under.
     #[tactic(auto, unfolding(nas_base::specs::Branches::per))]
-    fn request_cover(&self) -> Cover
-        ensures { result ≡ request_cover self.now.common }
+    fn request_protection(&self) -> Protection
+        ensures { result ≡ request_protection self.now.common }
     {
         match self.common.current {
-            Some(_) => Cover::IntegrityProtected,
-            None => Cover::Plain,
+            Some(_) => Protection::IntegrityProtected,
+            None => Protection::Plain,
         }
     }
 
@@ -83,15 +83,15 @@ impl Work {
     pub fn request(&mut self, message: Mm) -> Result<(), Memory>
         ensures { OnOk result (self.new ≡ request message self.old) }
     {
-        let cover = self.request_cover();
-        self.say(!self.common.connected, cover, message)
+        let protection = self.request_protection();
+        self.say(!self.common.connected, protection, message)
     }
 
     /// A timer is started for its duration.
     pub fn start(&mut self, id: TimerId) -> Result<(), Memory>
         ensures { OnOk result (self.new ≡ start id self.old) }
     {
-        let at = deadline_after(self.now, self.common.config.durations.of(id));
+        let at = deadline_after(self.moment, self.common.config.durations.of(id));
         self.tell(UeOut::Start { id, at })
     }
 
