@@ -1,11 +1,11 @@
 -- What is due.
-use Rattle.std.proofs.Common.{zero, suc, length, get_or, ◌≡◌, ◌≢◌, ◌⊎◌, ◌∙◌, ◌<◌, ◌≤◌, ℕ, ◌==◌, nat_lt, nat_le, Bool, true, false, cond, List, [], ◌∷◌, Option, Some, None, arith, refl, ap, sym, subst, inl, inr}
+use Rattle.std.proofs.Common.{zero, suc, length, get_or, ◌≡◌, ◌⊎◌, ◌∙◌, ◌<◌, ◌≤◌, ℕ, nat_le, Bool, true, false, List, [], ◌∷◌, Option, Some, None, arith, refl, ap, subst, inl, inr}
 use Rattle.std.proofs.lemmas.Bool.{and_parts, leb-true, leb-false}
 use Rattle.std.proofs.lemmas.Bool.Decides.{nat_tests}
 use Rattle.std.specs.Prelude.{Contains, MatchOption, option_map}
 use Rattle.nas_timers.specs.Names.{is_before, same_name}
 use Rattle.nas_timers.specs.TimerLaws.{DeadlinesStand, DueIsLeast, IsDue, NoneIsDue}
-use Rattle.nas_timers.specs.Timers.{Running, all_behind, are_timers, deadline_of, due_of, is_sooner, sooner_of, soonest_from}
+use Rattle.nas_timers.specs.Timers.{Running, all_behind, are_timers, deadline_of, is_sooner, sooner_of, soonest_from}
 use Rattle.nas_timers.specs.declared.timer_id.TimerId.{TimerId}
 use Rattle.nas_timers.proofs.NameLemmas.{before_apart, same_apart, same_equal, same_self}
 use Rattle.nas_timers.proofs.TimersLemmas.{parts}
