@@ -20,7 +20,7 @@ abbrev pub D : Action
 D = Discard
 
 -- A row at a handset: its cells are those of Registering from Deregistered, Registering from Registered, Registered, Serving and
--- Deregistering. A handset that is deregistered awaits nothing.
+-- Deregistering. In Deregistered, where a handset is idle, every kind is discarded.
 abbrev pub row : Action → Action → Action → Action → Action → MmWord → Action
 row new again registered serving deregistering ue.Deregistered = D
 row new again registered serving deregistering ue.RegisteringNew = new
@@ -29,7 +29,7 @@ row new again registered serving deregistering ue.Registered = registered
 row new again registered serving deregistering ue.Serving = serving
 row new again registered serving deregistering ue.Deregistering = deregistering
 
--- at a handset (TS 24.501 clauses 5.4.1 to 5.4.3, 5.5.1, 5.5.2, 5.6.1 and 7.4)
+-- at a handset (TS 24.501 clauses 5.4.1 to 5.4.5, 5.5.1, 5.5.2, 5.6.1 and 7.4)
 abbrev pub handset_row : MmKind → MmWord → Action
 handset_row AuthenticationRequest = row T T T T D
 handset_row AuthenticationReject = row T T T T D
@@ -54,7 +54,7 @@ amf_row registered other deregistering amf.Deregistering marked = deregistering
 amf_row registered other deregistering _ true = registered
 amf_row registered other deregistering _ false = other
 
--- at the AMF (TS 24.501 clauses 5.4.1 to 5.4.3, 5.5.1, 5.5.2, 5.6.1 and 7.4); SERVICE REQUEST is one that passed
+-- at the AMF (TS 24.501 clauses 5.4.1 to 5.4.5, 5.5.1, 5.5.2, 5.6.1 and 7.4); SERVICE REQUEST is one that passed
 abbrev pub network_row : MmKind → AmfWord → Bool → Action
 network_row RegistrationRequest = amf_row T T T
 network_row DeregistrationRequestUeOriginating = amf_row T T T

@@ -12,7 +12,7 @@ const S: Action = Action::Status98;
 
 const D: Action = Action::Discard;
 
-/// What a handset does with a message that passed its check (TS 24.501 clauses 5.4.1 to 5.4.3, 5.5.1, 5.5.2, 5.6.1 and 7.4). A
+/// What a handset does with a message that passed its check (TS 24.501 clauses 5.4.1 to 5.4.5, 5.5.1, 5.5.2, 5.6.1 and 7.4). A
 /// plain message that would be answered with `Status98` is to be discarded.
 pub fn collide_mm(state: MmWord, kind: MmKind) -> Action
     ensures { result ≡ collide_mm state kind }
@@ -54,7 +54,7 @@ fn row(
     }
 }
 
-/// What the AMF does with a message that passed its check, or that is permitted without one (TS 24.501 clauses 5.4.1 to 5.4.3,
+/// What the AMF does with a message that passed its check, or that is permitted without one (TS 24.501 clauses 5.4.1 to 5.4.5,
 /// 5.5.1, 5.5.2, 5.6.1 and 7.4). `registered` is whether the subscriber is registered. A SERVICE REQUEST is one that passed.
 pub fn collide_amf(state: AmfWord, registered: bool, kind: MmKind) -> Action
     ensures { result ≡ collide_amf state registered kind }

@@ -1,5 +1,5 @@
 -- What starting and stopping change.
-use Rattle.std.proofs.Common.{◌≡◌, ◌≢◌, ◌∙◌, ℕ, Bool, true, false, cond, List, [], ◌∷◌, Option, Some, None, refl, ap, sym, subst}
+use Rattle.std.proofs.Common.{◌≡◌, ◌≢◌, ◌∙◌, ℕ, Bool, true, false, cond, List, [], ◌∷◌, Option, Some, None, refl, subst}
 use Rattle.nas_timers.specs.Names.{is_before, same_name}
 use Rattle.nas_timers.specs.TimerLaws.{StartsReplace, StopsRemove}
 use Rattle.nas_timers.specs.Timers.{Running, deadline_of, started, stopped}

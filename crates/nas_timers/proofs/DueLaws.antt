@@ -1,11 +1,11 @@
 -- What is due.
-use Rattle.std.proofs.Common.{◌≡◌, ◌≢◌, ◌⊎◌, ◌∙◌, ◌<◌, ◌≤◌, ℕ, ◌==◌, nat_lt, nat_le, Bool, true, false, cond, List, [], ◌∷◌, Option, Some, None, arith, refl, ap, sym, subst, inl, inr}
+use Rattle.std.proofs.Common.{zero, suc, length, get_or, ◌≡◌, ◌⊎◌, ◌∙◌, ◌<◌, ◌≤◌, ℕ, nat_le, Bool, true, false, List, [], ◌∷◌, Option, Some, None, arith, refl, ap, subst, inl, inr}
 use Rattle.std.proofs.lemmas.Bool.{and_parts, leb-true, leb-false}
 use Rattle.std.proofs.lemmas.Bool.Decides.{nat_tests}
-use Rattle.std.specs.Prelude.{MatchOption, option_map}
+use Rattle.std.specs.Prelude.{Contains, MatchOption, option_map}
 use Rattle.nas_timers.specs.Names.{is_before, same_name}
-use Rattle.nas_timers.specs.TimerLaws.{DueIsLeast, IsDue, NoneIsDue}
-use Rattle.nas_timers.specs.Timers.{Running, all_behind, are_timers, deadline_of, due_of, is_sooner, sooner_of, soonest_from}
+use Rattle.nas_timers.specs.TimerLaws.{DeadlinesStand, DueIsLeast, IsDue, NoneIsDue}
+use Rattle.nas_timers.specs.Timers.{Running, all_behind, are_timers, deadline_of, is_sooner, sooner_of, soonest_from}
 use Rattle.nas_timers.specs.declared.timer_id.TimerId.{TimerId}
 use Rattle.nas_timers.proofs.NameLemmas.{before_apart, same_apart, same_equal, same_self}
 use Rattle.nas_timers.proofs.TimersLemmas.{parts}
@@ -142,6 +142,23 @@ deadline t (u ∷ us) h there =
       | inl e ↦ subst (λ (x : Running). deadline_of x.id (u ∷ us) ≡ Some x.at) e (rw (same_self u.id) refl)
       | inr rest ↦ rw (all_apart u.id t us p.1 rest) (deadline t us p.2 rest)
     ]
+
+-- a timer is one of these exactly where they contain it
+contains : (t : Running) (ts : List Running) → Among t ts → Contains ts t
+contains t [] h = absurd h
+contains t (u ∷ us) h =
+    elim h [ inl e ↦ (0, omega arith, e) | inr later ↦ (let rest = contains t us later in (suc rest.0, omega (arith, rest.1), rest.2)) ]
+
+among_at : (t : Running) (ts : List Running) (k : ℕ) → k < length ts → get_or ts k t ≡ t → Among t ts
+among_at t [] k below e = absurd (omega arith)
+among_at t (u ∷ us) zero below e = inl e
+among_at t (u ∷ us) (suc k) below e = inr (among_at t us k (omega arith) e)
+
+pub deadlines_stand : DeadlinesStand
+deadlines_stand = record {
+  found = λ id at ts h. contains (record { id = id; at = at }) ts (among id at ts h);
+  only = λ t ts h there. deadline t ts h (among_at t ts there.0 there.1 there.2);
+}
 
 -- what isn't sooner has a later deadline, or the same one and a later name
 least_by : (r t : Running) → is_sooner t r ≡ false → same_name t.id r.id ≡ false → (r.at < t.at) ⊎ ((r.at ≡ t.at) × (is_before r.id t.id ≡ true))

@@ -1,14 +1,12 @@
 -- A name is started or stopped at its place.
-use Rattle.std.proofs.Common.{◌≡◌, ◌∙◌, ◌<◌, ◌≤◌, ◌+◌, ℕ, zero, suc, Bool, true, false, List, [], ◌∷◌, ◌++◌, length, take, drop, set, Option, Some, None, arith, refl, ap, sym, subst}
-use Rattle.std.proofs.lemmas.Bool.{and_from, and_parts}
+use Rattle.std.proofs.Common.{◌≡◌, ◌∙◌, ◌<◌, ◌≤◌, ℕ, zero, suc, Bool, true, false, List, [], ◌∷◌, length, set, arith, refl, ap, sym, subst}
+use Rattle.std.proofs.lemmas.Bool.{and_from}
 use Rattle.std.proofs.lemmas.Grind.{common_steps}
-use Rattle.std.proofs.lemmas.Option.{slice_get_past}
-use Rattle.std.proofs.lemmas.Bool.Decides.{nat_tests}
 use Rattle.std.proofs.Math.ListN.{length-set}
 use Rattle.std.specs.List.{refill}
-use Rattle.std.specs.Prelude.{insert, remove, slice_get}
-use Rattle.nas_timers.specs.Names.{is_before, is_name, same_name}
-use Rattle.nas_timers.specs.Places.{is_at, is_named, place_of}
+use Rattle.std.specs.Prelude.{insert, remove}
+use Rattle.nas_timers.specs.Names.{is_before, same_name}
+use Rattle.nas_timers.specs.Places.{is_at, place_of}
 use Rattle.nas_timers.specs.Timers.{Running, all_behind, are_timers, started, stopped}
 use Rattle.nas_timers.specs.declared.timer_id.TimerId.{TimerId}
 use Rattle.nas_timers.proofs.NameLemmas.{before_apart, before_other, same_equal}

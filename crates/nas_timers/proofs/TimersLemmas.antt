@@ -1,9 +1,8 @@
 -- A list of timers stays one when a name is started or stopped.
-use Rattle.std.proofs.Common.{◌≡◌, ◌∙◌, ◌<◌, ◌≤◌, ◌+◌, ℕ, zero, suc, Bool, true, false, List, [], ◌∷◌, ◌++◌, length, take, drop, set, Some, None, arith, refl, ap, sym, subst}
+use Rattle.std.proofs.Common.{◌≡◌, ◌≤◌, ◌+◌, ℕ, Bool, true, false, List, [], ◌∷◌, length, arith, refl, ap, subst}
 use Rattle.std.proofs.lemmas.Bool.{and_from, and_parts}
-use Rattle.std.specs.Prelude.{◌&&◌, insert, remove}
+use Rattle.std.specs.Prelude.{◌&&◌}
 use Rattle.nas_timers.specs.Names.{is_before, is_name, same_name}
-use Rattle.nas_timers.specs.Places.{is_at, place_of}
 use Rattle.nas_timers.specs.Timers.{Running, all_behind, are_timers, started, stopped}
 use Rattle.nas_timers.specs.declared.timer_id.TimerId.{TimerId}
 use Rattle.nas_timers.proofs.NameLemmas.{before_apart, before_more, before_other, place, place_limit, places_rise, same_equal, same_turned}

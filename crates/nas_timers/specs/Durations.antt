@@ -1,4 +1,4 @@
--- How long timers run, in milliseconds.
+-- How long timers run, in milliseconds (TS 24.501 tables 10.2.1, 10.2.2, 10.3.1 and 10.3.2 list them; how long is a choice).
 use Rattle.std.specs.Prelude.{ℕ, ◌+◌, Bool, nat_le, ◌&&◌, min}
 use Rattle.nas_base.specs.Values.{last_moment}
 use Rattle.nas_timers.specs.declared.timer_id.TimerId.{TimerId}
@@ -43,7 +43,7 @@ duration_of (T3582 psi) d = d.t3582
 duration_of (T3591 psi) d = d.t3591
 duration_of (T3592 psi) d = d.t3592
 
--- the standard's values (TS 24.501 tables 10.2.1, 10.2.2, 10.3.1 and 10.3.2), but for T3516
+-- the durations that hold where no others are given
 abbrev pub standard_durations : DurationParts
 standard_durations = record {
   t3510 = 15000;

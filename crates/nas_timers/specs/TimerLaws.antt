@@ -1,8 +1,13 @@
 -- What starting and stopping change, and which timer is due.
-use Rattle.std.specs.Prelude.{◌≡◌, ◌≢◌, ◌<◌, ◌≤◌, ◌⊎◌, ℕ, true, List, Option, Some, None, MatchOption}
+use Rattle.std.specs.Prelude.{◌≡◌, ◌≢◌, ◌<◌, ◌≤◌, ◌⊎◌, ℕ, true, List, Some, None, MatchOption, Contains}
 use Rattle.nas_timers.specs.Names.{is_before}
 use Rattle.nas_timers.specs.Timers.{Running, are_timers, deadline_of, due_of, started, stopped}
 use Rattle.nas_timers.specs.declared.timer_id.TimerId.{TimerId}
+
+-- The deadline of a name is the one that stands beside it among the timers, and no name stands there with two.
+pub record DeadlinesStand : Type 0 where
+  pub found : (id : TimerId) (at : ℕ) (ts : List Running) → deadline_of id ts ≡ Some at → Contains ts (record { id = id; at = at })
+  pub only : (t : Running) (ts : List Running) → are_timers ts ≡ true → Contains ts t → deadline_of t.id ts ≡ Some t.at
 
 -- A name that is started has the new deadline, and all others have theirs.
 pub record StartsReplace : Type 0 where

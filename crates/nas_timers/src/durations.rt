@@ -6,7 +6,8 @@ use crate::TimerId;
 use nas_base::Moment;
 use std::marker::Model;
 
-/// The durations of the timers, each from 1 to 86,400,000 milliseconds. Those timers that each PDU session has run equally long.
+/// The durations of the timers (TS 24.501 clauses 10.2 and 10.3), each from 1 to 86,400,000 milliseconds. A timer of a PDU session
+/// runs equally long for each.
 #[derive(Clone, Copy, Debug, PartialEq, Eq)]
 pub struct Durations {
     pub t3510: Moment,
@@ -37,7 +38,7 @@ impl Model for Durations {
 }
 
 impl Durations {
-    /// The standard's durations (TS 24.501 clauses 10.2 and 10.3).
+    /// The durations that hold where no others are given.
     pub fn standard() -> Durations
         ensures { result ≡ standard_durations }
     {

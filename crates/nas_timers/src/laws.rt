@@ -1,5 +1,10 @@
 //! What the definitions of this crate say together. These functions do nothing: their contracts are the laws.
-ghost use Rattle.nas_timers.specs.TimerLaws.{DueIsLeast, StartsReplace, StopsRemove};
+ghost use Rattle.nas_timers.specs.TimerLaws.{DeadlinesStand, DueIsLeast, StartsReplace, StopsRemove};
+
+/// The deadline of a timer stands beside its name among those that run, and no name stands there with two deadlines.
+pub fn deadlines_stand()
+    ensures { DeadlinesStand }
+{}
 
 /// A timer that is started has its new deadline, and all others have theirs.
 pub fn starts_replace()

@@ -7,7 +7,7 @@ mod timer_id;
 mod timers;
 
 pub use crate::durations::{Durations, deadline_after};
-pub use crate::laws::{due_is_least, starts_replace, stops_remove};
+pub use crate::laws::{deadlines_stand, due_is_least, starts_replace, stops_remove};
 pub use crate::timer_id::TimerId;
 pub use crate::timers::Timers;
 

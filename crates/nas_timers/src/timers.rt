@@ -95,6 +95,7 @@ impl Timers {
     pub fn start(&mut self, id: TimerId, at: Moment)
         ensures { self.new ≡ started id at self.old }
     {
+        // To read the name shows that it is one of the 82, so that there is room.
         let _session = id.session();
         let index = self.place_of(&id);
         let entry = Entry { id, at };

@@ -1,6 +1,6 @@
-use Rattle.std.proofs.Common.{◌≡◌, ◌∙◌, ◌<◌, ◌≤◌, true, false, List, length, arith, ap, sym, subst}
+use Rattle.std.proofs.Common.{◌≡◌, ◌∙◌, true, false, List, length, arith, ap, sym, subst}
 use Rattle.nas_timers.specs.Places.{is_at, place_of}
-use Rattle.nas_timers.specs.Timers.{Running, are_timers, started}
+use Rattle.nas_timers.specs.Timers.{Running, are_timers}
 use Rattle.nas_timers.proofs.PlaceLemmas.{added, place_within, replaced_whole}
 use Rattle.nas_timers.proofs.TimersLemmas.{counted, timers_started}
 use Rattle.nas_timers.proofs.timers.Timers.start.Goals as goal

@@ -1,6 +1,6 @@
-use Rattle.std.proofs.Common.{◌≡◌, ◌∙◌, ◌<◌, true, false, List, length, arith, ap, sym, subst}
+use Rattle.std.proofs.Common.{◌≡◌, ◌∙◌, true, false, List, length, arith, ap, sym, subst}
 use Rattle.nas_timers.specs.Places.{is_at, place_of}
-use Rattle.nas_timers.specs.Timers.{Running, are_timers, stopped}
+use Rattle.nas_timers.specs.Timers.{Running, are_timers}
 use Rattle.nas_timers.proofs.PlaceLemmas.{absent, at_within, removed}
 use Rattle.nas_timers.proofs.TimersLemmas.{timers_stopped}
 use Rattle.nas_timers.proofs.timers.Timers.stop.Goals as goal
