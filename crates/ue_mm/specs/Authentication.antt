@@ -1,5 +1,5 @@
 -- Primary authentication (TS 24.501 clause 5.4.1.3, TS 33.501 clause 6.1.3.2).
-use Rattle.std.specs.Prelude.{ℕ, Bool, true, false, ◌==◌, ◌&&◌, ◌||◌, List, take, Option, Some, None}
+use Rattle.std.specs.Prelude.{ℕ, Bool, false, ◌==◌, ◌&&◌, ◌||◌, List, take, Option, Some, None}
 use Rattle.std.specs.Str.{bytes_eq}
 use Rattle.nas_base.specs.Branches.{per, when◌then◌else◌}
 use Rattle.key_chain.specs.Keys.{kamf, kausf, kseaf, res_star}
@@ -21,9 +21,9 @@ abbrev pub is_same : Request → Request → Bool
 is_same one other =
     one.ksi == other.ksi && bytes_eq one.abba other.abba && bytes_eq one.rand other.rand && bytes_eq one.autn other.autn
 
--- the request is the one that was accepted last
-abbrev pub is_repeated : Option Stored → Request → Bool
-is_repeated stored r = per stored false (λ (s : Stored). is_same s.request r)
+-- the answer to the challenge that was accepted last, where the request is the same
+abbrev pub answer_again : Option Stored → Request → Option (List ℕ)
+answer_again stored r = per stored None (λ (s : Stored). when is_same s.request r then Some s.res_star else None)
 
 abbrev pub response : List ℕ → Work → Work
 response res_star w = answer (AuthenticationResponse (Some res_star)) w
@@ -57,9 +57,10 @@ answered (SynchFailure auts) r w = failure 21 (Some auts) w
 -- a challenge, in the order of its cases: one that is repeated, one whose ngKSI is in use (71), and what MILENAGE answers
 unfoldable pub challenged : Request → Work → Work
 challenged r w =
-    when is_repeated w.common.stored r then per w.common.stored w (λ (s : Stored). response s.res_star w)
-    else (when is_ksi_refused w.common.current r.ksi then failure 71 None w
-    else answered (checked w.common.config.k w.common.config.opc r.rand r.autn w.common.sqn) r w)
+    per (answer_again w.common.stored r)
+      (when is_ksi_refused w.common.current r.ksi then failure 71 None w
+      else answered (checked w.common.config.k w.common.config.opc r.rand r.autn w.common.sqn) r w)
+      (λ (res_star : List ℕ). response res_star w)
 
 -- AUTHENTICATION REQUEST; without RAND or AUTN it is none
 unfoldable pub authentication_requested : ℕ → List ℕ → Option (List ℕ) → Option (List ℕ) → Work → Work

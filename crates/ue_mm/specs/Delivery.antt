@@ -1,8 +1,7 @@
 -- What a handset makes of octets that reach it (TS 24.501 clauses 4.4.4.2 and 7).
-use Rattle.std.specs.Prelude.{ℕ, Bool, true, false, not, ◌==◌, ◌&&◌, ◌||◌, ◌%◌, List, length, drop, slice_index_or, nat_lt, Option, Some, None, Result, Ok, Err, if◌then◌else◌}
+use Rattle.std.specs.Prelude.{ℕ, Bool, false, not, ◌==◌, ◌||◌, ◌%◌, List, length, drop, slice_index_or, nat_lt, Option, Some, None, Result, Ok, Err, if◌then◌else◌}
 use Rattle.nas_base.specs.Branches.{per, when◌then◌else◌}
 use Rattle.nas_base.specs.Kinds.{mm_kind}
-use Rattle.nas_base.specs.declared.mm_kind.MmKind.{MmKind}
 use Rattle.collision_rules.specs.Mm.{collide_mm}
 use Rattle.collision_rules.specs.Plain.{permitted_ue}
 use Rattle.collision_rules.specs.declared.action.Action.{Action}
@@ -121,10 +120,14 @@ unfoldable pub plain : List ℕ → Work → Work
 plain octets w = when w.common.secure then w else plain_read (mm_in octets) octets w
 
 -- a frame of header type 3, by the command inside
-abbrev pub new_context : Result Mm MmRefusal → List ℕ → Work → Work
-new_context (Ok (SecurityModeCommand algs ksi capability information)) octets w =
-    security_mode_commanded (record { algs = algs; ksi = ksi; capability = capability; information = information }) octets w
-new_context read octets w = w
+abbrev pub command_of : Result Mm MmRefusal → Option Command
+command_of (Ok (SecurityModeCommand algs ksi capability information)) =
+    Some (record { algs = algs; ksi = ksi; capability = capability; information = information })
+command_of read = None
+
+unfoldable pub new_context : List ℕ → Work → Work
+new_context octets w =
+    per (command_of (mm_in (drop 7 octets))) w (λ (command : Command). security_mode_commanded command octets w)
 
 -- a frame of header type 1, 2 or 4, under the current context
 abbrev pub frame_under_current : SecurityContext → List ℕ → Work → Work
@@ -144,5 +147,5 @@ unfoldable pub delivered : List ℕ → Work → Work
 delivered octets w =
     when not w.common.connected || nat_lt 4096 (length octets) then w
     else (when header_of octets == 0 then plain octets w
-    else (when header_of octets == 3 then new_context (mm_in (drop 7 octets)) octets w
+    else (when header_of octets == 3 then new_context octets w
     else protected octets w))

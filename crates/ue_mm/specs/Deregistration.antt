@@ -1,5 +1,5 @@
 -- Deregistration, by the handset (TS 24.501 clause 5.5.2.2) and by the network (clause 5.5.2.3).
-use Rattle.std.specs.Prelude.{ℕ, ◌+◌, Bool, true, false, nat_lt}
+use Rattle.std.specs.Prelude.{◌+◌, Bool, true, false, nat_lt}
 use Rattle.nas_base.specs.Branches.{when◌then◌else◌}
 use Rattle.nas_timers.specs.declared.timer_id.TimerId.TheVariants.{T3521}
 use Rattle.mm_messages.specs.declared.message.Mm.{Mm}

@@ -1,5 +1,5 @@
 -- Timers that expire, a connection that is lost, and a restart.
-use Rattle.std.specs.Prelude.{ℕ, None, if◌then◌else◌}
+use Rattle.std.specs.Prelude.{None}
 use Rattle.nas_timers.specs.declared.timer_id.TimerId.{TimerId}
 use Rattle.nas_timers.specs.declared.timer_id.TimerId.TheVariants.{T3510, T3516, T3517, T3521, T3522, T3550, T3560, T3580, T3581, T3582, T3591, T3592}
 use Rattle.ue_mm.specs.Connection.{deregistered, erased, idle}

@@ -1,9 +1,8 @@
 -- How what is said becomes octets: spelled, and protected under the current context (TS 24.501 clause 4.4, TS 33.501 clause 6.4).
-use Rattle.std.specs.Prelude.{◌≡◌, ℕ, ◌+◌, ◌^◌, Bool, true, false, ◌==◌, ◌||◌, List, [], ◌∷◌, ◌++◌, length, nat_lt, Option, Some, None}
+use Rattle.std.specs.Prelude.{◌≡◌, ℕ, ◌+◌, ◌^◌, Bool, true, false, ◌==◌, ◌||◌, List, [], ◌∷◌, ◌++◌, length, nat_lt, Some, None}
 use Rattle.nas_base.specs.Branches.{per, when◌then◌else◌}
 use Rattle.nas_base.specs.declared.count.Dir.TheVariants.{Up}
 use Rattle.mm_messages.specs.Messages.{spelling}
-use Rattle.mm_messages.specs.declared.message.Mm.{Mm}
 use Rattle.nas_security.specs.Contexts.{SecurityContext}
 use Rattle.nas_security.specs.Counts.{with_next}
 use Rattle.nas_security.specs.Frame.{frame}

@@ -1,5 +1,5 @@
 -- How the handset names itself, and the identification procedure (TS 24.501 clause 5.4.3).
-use Rattle.std.specs.Prelude.{ℕ, List, [], ◌∷◌, ◌==◌, Option}
+use Rattle.std.specs.Prelude.{ℕ, [], ◌∷◌, ◌==◌, Option}
 use Rattle.nas_base.specs.Branches.{per, when◌then◌else◌}
 use Rattle.nas_base.specs.Supi.{msin_of}
 use Rattle.nas_elements.specs.Guti.{stmsi_of}

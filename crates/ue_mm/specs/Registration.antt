@@ -1,5 +1,5 @@
 -- Registration (TS 24.501 clauses 5.5.1.2 and 5.5.1.3).
-use Rattle.std.specs.Prelude.{ℕ, Bool, true, false, ◌==◌, ◌||◌, List, Option, Some, None}
+use Rattle.std.specs.Prelude.{ℕ, Bool, ◌==◌, ◌||◌, List, Option, Some, None}
 use Rattle.nas_base.specs.Branches.{per, when◌then◌else◌}
 use Rattle.nas_base.specs.declared.kind.Kind.{Kind}
 use Rattle.nas_base.specs.declared.kind.Kind.TheVariants as kinds

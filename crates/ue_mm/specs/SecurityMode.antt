@@ -1,5 +1,5 @@
 -- Security mode control (TS 24.501 clause 5.4.2, TS 33.501 clause 6.7.2).
-use Rattle.std.specs.Prelude.{ℕ, ◌+◌, Bool, true, false, not, ◌==◌, ◌&&◌, ◌||◌, List, Option, Some, None, option_map}
+use Rattle.std.specs.Prelude.{ℕ, Bool, true, false, ◌==◌, ◌&&◌, ◌||◌, List, Option, Some, None, option_map}
 use Rattle.std.specs.Str.{bytes_eq}
 use Rattle.nas_base.specs.Branches.{per, when◌then◌else◌}
 use Rattle.key_chain.specs.Keys.{nas_keys}
@@ -19,7 +19,6 @@ use Rattle.ue_mm.specs.Work.{answer, say, stop, tell}
 use Rattle.ue_mm.specs.declared.acts.Protection.TheVariants.{CipheredWithNewContext}
 use Rattle.ue_mm.specs.declared.common.Pending.{Pending}
 use Rattle.ue_mm.specs.declared.outs.UeOut.TheVariants.{Abandon, Took}
-use Rattle.ue_mm.specs.declared.procedures.Phase.{Phase}
 use Rattle.ue_mm.specs.declared.procedures.Registration.{Registration}
 use Rattle.ue_mm.specs.declared.security_mode.Command.{Command}
 use Rattle.ue_mm.specs.declared.work.Work.{Work}

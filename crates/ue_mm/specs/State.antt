@@ -1,22 +1,17 @@
 -- What a handset's 5GMM keeps between two events (TS 24.501 clause 5.1.3.2.1).
-use Rattle.std.specs.Prelude.{ℕ, Bool, true, false, Option, Some, None, option_map}
+use Rattle.std.specs.Prelude.{Bool, true, false, Option, Some, None, option_map}
 use Rattle.nas_base.specs.declared.kind.Kind.{Kind}
 use Rattle.nas_base.specs.declared.kind.Kind.TheVariants as kinds
 use Rattle.nas_base.specs.declared.state_words.MmWord.{MmWord}
 use Rattle.nas_base.specs.declared.state_words.MmWord.TheVariants as words
-use Rattle.nas_elements.specs.declared.guti.Guti.{Guti}
-use Rattle.nas_security.specs.Contexts.{SecurityContext}
-use Rattle.nas_security.specs.declared.challenges.Challenge.{Challenge}
 use Rattle.nas_timers.specs.declared.timer_id.TimerId.{TimerId}
 use Rattle.nas_timers.specs.declared.timer_id.TimerId.TheVariants.{T3510, T3517, T3521}
 use Rattle.ue_mm.specs.Common.{Common}
 use Rattle.ue_mm.specs.Config.{HandsetValues}
-use Rattle.ue_mm.specs.declared.procedures.Deregistration.{Deregistration}
 use Rattle.ue_mm.specs.declared.procedures.Phase.{Phase}
 use Rattle.ue_mm.specs.declared.procedures.Phase.TheVariants.{Deregistered, Registering, Registered, Serving, Deregistering}
 use Rattle.ue_mm.specs.declared.procedures.Registration.{Registration}
 use Rattle.ue_mm.specs.declared.common.Pending.{Pending}
-use Rattle.ue_mm.specs.declared.common.Stored.{Stored}
 use Rattle.ue_mm.specs.declared.state.UeMm.{UeMm}
 use Rattle.ue_mm.specs.declared.state.UeMm.TheVariants as states
 use Rattle.ue_mm.specs.declared.view.UeView.{UeView}

@@ -1,6 +1,5 @@
 -- One step of a handset's 5GMM: what comes in, by its row, and what goes out.
-use Rattle.std.specs.Prelude.{◌≡◌, ℕ, Bool, List, [], Option, Result, Ok, Err}
-use Rattle.nas_security.specs.Contexts.{SecurityContext}
+use Rattle.std.specs.Prelude.{◌≡◌, ℕ, Bool, List, [], Result, Ok, Err}
 use Rattle.ue_mm.specs.Commands.{commanded}
 use Rattle.ue_mm.specs.Delivery.{delivered}
 use Rattle.ue_mm.specs.Events.{dropped, expired, restarted}

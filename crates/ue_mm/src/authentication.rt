@@ -1,7 +1,7 @@
 //! Primary authentication.
 ghost use Rattle.std.specs.Prelude.{◌≡◌, ◌<◌, ◌^◌, OnOk};
 ghost use Rattle.milenage.specs.Checking.{SqnFits};
-ghost use Rattle.ue_mm.specs.Authentication.{accepted, answered, authentication_requested, challenged, failure, is_ksi_refused, is_repeated, is_same, kamf_of, response};
+ghost use Rattle.ue_mm.specs.Authentication.{accepted, answer_again, answered, authentication_requested, challenged, failure, is_ksi_refused, is_same, kamf_of, response};
 
 use crate::work::Work;
 use crate::{HandsetConfig, Pending, Stored};
@@ -65,6 +65,17 @@ fn kamf_of(config: &HandsetConfig, ck: &[u8; 16], ik: &[u8; 16], request: &Reque
     kamf(&kseaf(&kausf, &config.plmn), &config.supi, request.abba.as_slice())
 }
 
+// The answer to the challenge that was accepted last, where the request is the same.
+#[tactic(auto, unfolding(nas_base::specs::Branches::chosen, nas_base::specs::Branches::per))]
+fn answer_again(stored: &Option<Stored>, request: &Request) -> Option<[u8; 16]>
+    ensures { result ≡ answer_again stored.now request.now }
+{
+    match stored {
+        Some(stored) if stored.request.is_same(request) => Some(stored.res_star),
+        _ => None,
+    }
+}
+
 // Whether the ngKSI says that no key is to come of it, or is that of the current context.
 #[tactic(auto, unfolding(nas_base::specs::Branches::per))]
 fn is_ksi_refused(current: &Option<Context>, ksi: Ksi) -> bool
@@ -110,11 +121,8 @@ impl Work {
     fn challenged(&mut self, request: Request) -> Result<(), Memory>
         ensures { OnOk result (self.new ≡ challenged request self.old) }
     {
-        if let Some(stored) = &self.common.stored {
-            if stored.request.is_same(&request) {
-                let res_star = stored.res_star;
-                return self.respond(res_star);
-            }
+        if let Some(res_star) = answer_again(&self.common.stored, &request) {
+            return self.respond(res_star);
         }
         if is_ksi_refused(&self.common.current, request.ksi) {
             return self.fail(NGKSI_ALREADY_IN_USE, None);

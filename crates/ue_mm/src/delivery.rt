@@ -1,7 +1,7 @@
 //! What a handset makes of octets that reach it.
-ghost use Rattle.std.specs.Prelude.{◌≡◌, drop, slice_index_or, OnOk};
+ghost use Rattle.std.specs.Prelude.{◌≡◌, drop, slice_index_or, IfOk, Ok, OnOk};
 ghost use Rattle.mm_messages.specs.Messages.{mm_in};
-ghost use Rattle.ue_mm.specs.Delivery.{action, by_table, delivered, faulty, header_of, is_permitted_type, is_plain_allowed, may_reject, new_context, passed, plain, plain_message, protected, taken, frame_under_current};
+ghost use Rattle.ue_mm.specs.Delivery.{action, by_table, command_of, delivered, faulty, header_of, is_permitted_type, is_plain_allowed, may_reject, new_context, passed, plain, plain_message, protected, taken, frame_under_current};
 
 use crate::checks::open;
 use crate::security_mode::Command;
@@ -116,26 +116,14 @@ impl Work {
     }
 
     // A frame of header type 3, by the command inside.
+    #[tactic(auto, unfolding(crate::specs::Delivery::new_context, nas_base::specs::Branches::per))]
     fn new_context(&mut self, alloc: Global, octets: &[u8]) -> Result<(), Memory>
-        ensures { OnOk result (self.new ≡ new_context (mm_in (drop 7 octets.now)) octets.now self.old) }
+        ensures { OnOk result (self.new ≡ new_context octets.now self.old) }
     {
-        match decode_mm(alloc, inside(octets)) {
-            Ok(Mm::SecurityModeCommand {
-                algs,
-                ksi,
-                capability,
-                asi,
-            }) => {
-                let command = Command {
-                    algs,
-                    ksi,
-                    capability,
-                    information: asi,
-                };
-                self.security_mode_commanded(alloc, &command, octets)
-            }
-            Err(MmRefusal::Memory) => Err(Memory),
-            Ok(_) | Err(_) => Ok(()),
+        let inside = inside(octets);
+        match command_in(alloc, inside)? {
+            Some(command) => self.security_mode_commanded(alloc, &command, octets),
+            None => Ok(()),
         }
     }
 
@@ -222,6 +210,39 @@ impl Work {
             } => self.transported(container_type, container, cause),
             _ => Ok(()),
         }
+    }
+}
+
+// The SECURITY MODE COMMAND in octets, if they are one.
+fn command_in(alloc: Global, octets: &[u8]) -> Result<Option<Command>, Memory>
+    ensures { IfOk result (λ command. command ≡ command_of (mm_in octets.now)) }
+{
+    match decode_mm(alloc, octets) {
+        Ok(message) => Ok(command_of(&message)),
+        Err(MmRefusal::Memory) => Err(Memory),
+        Err(MmRefusal::Ignored { at: _ })
+        | Err(MmRefusal::UnknownType { n: _ })
+        | Err(MmRefusal::Mandatory { part: _, at: _ }) => Ok(None),
+    }
+}
+
+// A message as a SECURITY MODE COMMAND, if it is one.
+fn command_of(message: &Mm) -> Option<Command>
+    ensures { result ≡ command_of (Ok message.now) }
+{
+    match message {
+        Mm::SecurityModeCommand {
+            algs,
+            ksi,
+            capability,
+            asi,
+        } => Some(Command {
+            algs: *algs,
+            ksi: *ksi,
+            capability: capability.copy(),
+            information: *asi,
+        }),
+        _ => None,
     }
 }
 

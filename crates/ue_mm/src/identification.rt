@@ -1,5 +1,7 @@
 //! How the handset names itself, and the identification procedure.
-ghost use Rattle.std.specs.Prelude.{◌≡◌, OnOk};
+ghost use Rattle.std.specs.Prelude.{◌≡◌, ◌≤◌, OnOk, length};
+ghost use Rattle.nas_elements.specs.Identity.{identity_octets};
+ghost use Rattle.nas_elements.specs.Suci.{suci_octets};
 ghost use Rattle.ue_mm.specs.Identification.{identity_of, identity_requested, ksi_of, short_identity_of, suci_of};
 
 use crate::HandsetConfig;
@@ -19,7 +21,8 @@ const SUCI: Half = Half(1);
 
 /// The handset's SUCI under the null scheme, with routing indicator 0.
 pub fn suci_of(config: &HandsetConfig) -> Suci
-    ensures { result ≡ suci_of config.now }
+    ensures value { result ≡ suci_of config.now }
+    ensures limit { length (suci_octets result) ≤ 18 }
 {
     Suci {
         plmn: config.plmn.copy(),
@@ -31,7 +34,8 @@ pub fn suci_of(config: &HandsetConfig) -> Suci
 /// The 5G-GUTI, or the SUCI where there is none.
 #[tactic(auto, unfolding(nas_base::specs::Branches::per))]
 pub fn identity_of(config: &HandsetConfig, guti: &Option<Guti>) -> Identity
-    ensures { result ≡ identity_of config.now guti.now }
+    ensures value { result ≡ identity_of config.now guti.now }
+    ensures limit { length (identity_octets result) ≤ 18 }
 {
     match guti {
         Some(guti) => Identity::Guti(guti.copy()),

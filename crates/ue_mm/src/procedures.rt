@@ -1,7 +1,7 @@
 //! The procedures that a handset has open. Each owns what its message says and names the timer that runs while it is open; a
 //! transition to another phase consumes it, so that a timer of a procedure that has ended finds no owner.
 ghost use Rattle.std.specs.Prelude.{◌≡◌, option_map};
-ghost use Rattle.ue_mm.specs.State.{is_deregistering, open_registration, word_of};
+ghost use Rattle.ue_mm.specs.State.{is_deregistering, registering_word, word_of};
 
 use nas_base::{Kind, Ksi, MmWord};
 use nas_elements::Guti;
@@ -52,6 +52,16 @@ pub fn copied(guti: &Option<Guti>) -> Option<Guti>
 }
 
 impl Registration {
+    /// The word of its state: an initial registration began in Deregistered, any other in Registered.
+    pub fn word(&self) -> MmWord
+        ensures { result ≡ registering_word self.now.kind }
+    {
+        match self.kind {
+            Kind::Initial => MmWord::RegisteringNew,
+            Kind::Mobility | Kind::Periodic => MmWord::RegisteringAgain,
+        }
+    }
+
     /// An equal value.
     pub fn copy(&self) -> Registration
         ensures { result ≡ self.now }
@@ -96,10 +106,7 @@ impl Phase {
     {
         match self {
             Phase::Deregistered => MmWord::Deregistered,
-            Phase::Registering(procedure) => match procedure.kind {
-                Kind::Initial => MmWord::RegisteringNew,
-                Kind::Mobility | Kind::Periodic => MmWord::RegisteringAgain,
-            },
+            Phase::Registering(procedure) => procedure.word(),
             Phase::Registered => MmWord::Registered,
             Phase::Serving(_) => MmWord::Serving,
             Phase::Deregistering(_) => MmWord::Deregistering,

@@ -1,5 +1,6 @@
 //! Registration.
-ghost use Rattle.std.specs.Prelude.{◌≡◌, OnOk};
+ghost use Rattle.std.specs.Prelude.{◌≡◌, ◌≤◌, OnOk, length};
+ghost use Rattle.mm_messages.specs.Messages.{spelling};
 ghost use Rattle.ue_mm.specs.Registration.{kept, named, phase_before, register, registered, registering, registration_accepted, registration_left, registration_rejected, registration_request, told_sessions, type_of};
 ghost use Rattle.ue_mm.specs.State.{open_registration};
 
@@ -25,8 +26,10 @@ fn type_of(kind: Kind) -> RegistrationType
 }
 
 /// The request of a registration, with the sessions that are told, if any.
+#[tactic(auto, using(crate::proofs::Fits::request_fits))]
 pub fn registration_request(config: &HandsetConfig, registration: &Registration, sessions: Option<Status>) -> Mm
-    ensures { result ≡ registration_request config.now registration.now sessions }
+    ensures value { result ≡ registration_request config.now registration.now sessions }
+    ensures limit { length (spelling result) ≤ 4096 }
 {
     Mm::RegistrationRequest {
         registration: type_of(registration.kind),

@@ -1,10 +1,12 @@
 //! The states of a handset's 5GMM.
-ghost use Rattle.std.specs.Prelude.{◌≡◌, IfOk};
-ghost use Rattle.ue_mm.specs.State.{first, state_of, view_of};
+ghost use Rattle.std.specs.Prelude.{◌≡◌, IfOk, option_map};
+ghost use Rattle.ue_mm.specs.State.{first, is_registered, state_of, view_of, word_of};
+ghost use Rattle.ue_mm.specs.declared.common.Pending.{Pending};
 
 use crate::procedures::{Deregistration, Phase, Registration, Service, copied};
-use crate::{Common, HandsetConfig, UeView};
+use crate::{Common, HandsetConfig, Pending, UeView};
 use nas_base::{Memory, MmWord};
+use nas_security::Challenge;
 use std::alloc::Global;
 
 /// A handset's 5GMM in one of its states, with the procedure that is open in it (TS 24.501 clause 5.1.3.2.1).
@@ -50,20 +52,43 @@ impl UeMm {
     pub fn view(&self) -> UeView
         ensures { result ≡ view_of (state_of self.now) }
     {
-        let (common, phase) = self.parts();
-        let state = phase.word();
+        let common = self.common();
+        let state = self.word();
         UeView {
             state,
             connected: common.connected,
             secure: common.secure,
-            registered: matches!(state, MmWord::RegisteringAgain | MmWord::Registered | MmWord::Serving),
+            registered: is_registered(state),
             guti: copied(&common.guti),
             current: common.current,
-            pending: match common.pending {
-                Some(pending) => Some(pending.challenge),
-                None => None,
-            },
+            pending: challenge_of(&common.pending),
             sqn_ms: common.sqn,
+        }
+    }
+
+    // What it has in every state.
+    fn common(&self) -> &Common
+        ensures { result.now ≡ (state_of self.now).common }
+    {
+        match self {
+            UeMm::Deregistered(common)
+            | UeMm::Registering(common, _)
+            | UeMm::Registered(common)
+            | UeMm::Serving(common, _)
+            | UeMm::Deregistering(common, _) => common,
+        }
+    }
+
+    // Its word.
+    fn word(&self) -> MmWord
+        ensures { result ≡ word_of (state_of self.now).phase }
+    {
+        match self {
+            UeMm::Deregistered(_) => MmWord::Deregistered,
+            UeMm::Registering(_, procedure) => procedure.word(),
+            UeMm::Registered(_) => MmWord::Registered,
+            UeMm::Serving(_, _) => MmWord::Serving,
+            UeMm::Deregistering(_, _) => MmWord::Deregistering,
         }
     }
 
@@ -95,5 +120,25 @@ impl UeMm {
             Phase::Serving(procedure) => UeMm::Serving(common, procedure),
             Phase::Deregistering(procedure) => UeMm::Deregistering(common, procedure),
         }
+    }
+}
+
+// Whether a handset in this state is registered, as far as it knows.
+fn is_registered(word: MmWord) -> bool
+    ensures { result ≡ is_registered word }
+{
+    match word {
+        MmWord::RegisteringAgain | MmWord::Registered | MmWord::Serving => true,
+        MmWord::Deregistered | MmWord::RegisteringNew | MmWord::Deregistering => false,
+    }
+}
+
+// The challenge of a pending key.
+fn challenge_of(pending: &Option<Pending>) -> Option<Challenge>
+    ensures { result ≡ option_map (λ (p : Pending). p.challenge) pending.now }
+{
+    match pending {
+        Some(pending) => Some(pending.challenge),
+        None => None,
     }
 }

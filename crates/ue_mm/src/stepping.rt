@@ -70,12 +70,13 @@ impl Work {
     fn end(self, alloc: Global) -> Result<(UeMm, UeOuts), Memory>
         ensures { IfOk result (λ new. record { state = state_of new.0; outs = new.1 } ≡ ended self) }
     {
+        let mut common = self.common;
         let mut framing = Framed {
-            current: self.common.current,
+            current: common.current,
             outs: UeOuts::new(alloc),
         };
-        framing.all(alloc, &self.common.config.supi, self.acts)?;
-        let mut common = self.common;
+        let supi = common.config.supi.copy();
+        framing.all(alloc, &supi, self.acts)?;
         common.current = framing.current;
         Ok((UeMm::of(common, self.phase), framing.outs))
     }

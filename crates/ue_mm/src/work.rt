@@ -91,7 +91,7 @@ impl Work {
     pub fn start(&mut self, id: TimerId) -> Result<(), Memory>
         ensures { OnOk result (self.new ≡ start id self.old) }
     {
-        let at = deadline_after(self.moment, self.common.config.durations.of(id));
+        let at = deadline_after(self.moment, self.common.config.durations.of(&id));
         self.tell(UeOut::Start { id, at })
     }
 
