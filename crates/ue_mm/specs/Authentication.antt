@@ -58,9 +58,9 @@ answered (SynchFailure auts) r w = failure 21 (Some auts) w
 unfoldable pub challenged : Request → Work → Work
 challenged r w =
     per (answer_again w.common.stored r)
-      (when is_ksi_refused w.common.current r.ksi then failure 71 None w
-      else answered (checked w.common.config.k w.common.config.opc r.rand r.autn w.common.sqn) r w)
-      (λ (res_star : List ℕ). response res_star w)
+    (when is_ksi_refused w.common.current r.ksi then failure 71 None w
+    else answered (checked w.common.config.k w.common.config.opc r.rand r.autn w.common.sqn) r w)
+    (λ (res_star : List ℕ). response res_star w)
 
 -- AUTHENTICATION REQUEST; without RAND or AUTN it is none
 unfoldable pub authentication_requested : ℕ → List ℕ → Option (List ℕ) → Option (List ℕ) → Work → Work

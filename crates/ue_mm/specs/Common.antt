@@ -18,4 +18,3 @@ pub record Common : Type 0 where
   pub pending : Option Pending
   pub stored : Option Stored
   pub sqn : ℕ
-

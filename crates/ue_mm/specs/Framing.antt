@@ -34,9 +34,9 @@ abbrev pub framed_under : List ℕ → ℕ → Bool → List ℕ → SecurityCon
 framed_under supi header fresh message context f =
     when is_too_long message || context.up == 2 ^ 24 then f
     else framed_out
-      (Send fresh (frame context Up context.up header message)
-        (Some (record { supi = supi; challenge = context.challenge; count = context.up })))
-      (record f { current = Some (with_next context Up (context.up + 1)) })
+    (Send fresh (frame context Up context.up header message)
+    (Some (record { supi = supi; challenge = context.challenge; count = context.up })))
+    (record f { current = Some (with_next context Up (context.up + 1)) })
 
 abbrev pub framed_protected : List ℕ → ℕ → Bool → List ℕ → Framed → Framed
 framed_protected supi header fresh message f =

@@ -97,8 +97,8 @@ picked_current ksi w =
 abbrev pub command_picked : Command → List ℕ → Work → Work
 command_picked command octets w =
     per (picked_pending command.ksi w)
-      (per (picked_current command.ksi w) w (λ (context : SecurityContext). command_under_current command context octets w))
-      (λ (p : Pending). command_under_pending command (made p command.algs) octets w)
+    (per (picked_current command.ksi w) w (λ (context : SecurityContext). command_under_current command context octets w))
+    (λ (p : Pending). command_under_pending command (made p command.algs) octets w)
 
 -- A frame of header type 3 is read inside, since its command tells the algorithms that its keys are made for.
 unfoldable pub security_mode_commanded : Command → List ℕ → Work → Work

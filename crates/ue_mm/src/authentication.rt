@@ -8,7 +8,10 @@ use crate::{HandsetConfig, Pending, Stored};
 use key_chain::{kamf, kausf, kseaf, res_star};
 use milenage::{AutnAnswer, check_autn};
 use mm_messages::Mm;
-use nas_base::mm_cause::{MAC_FAILURE, NGKSI_ALREADY_IN_USE, NON_5G_AUTHENTICATION_UNACCEPTABLE, PROTOCOL_ERROR_UNSPECIFIED, SYNCH_FAILURE};
+use nas_base::mm_cause::{
+    MAC_FAILURE, NGKSI_ALREADY_IN_USE, NON_5G_AUTHENTICATION_UNACCEPTABLE,
+    PROTOCOL_ERROR_UNSPECIFIED, SYNCH_FAILURE,
+};
 use nas_base::{Ksi, Memory};
 use nas_layout::Abba;
 use nas_security::{Challenge, Context};
@@ -62,7 +65,11 @@ fn kamf_of(config: &HandsetConfig, ck: &[u8; 16], ik: &[u8; 16], request: &Reque
 {
     let [a, b, c, d, e, f, ..] = request.autn;
     let kausf = kausf(ck, ik, &config.plmn, &[a, b, c, d, e, f]);
-    kamf(&kseaf(&kausf, &config.plmn), &config.supi, request.abba.as_slice())
+    kamf(
+        &kseaf(&kausf, &config.plmn),
+        &config.supi,
+        request.abba.as_slice(),
+    )
 }
 
 // The answer to the challenge that was accepted last, where the request is the same.
@@ -128,7 +135,13 @@ impl Work {
             return self.fail(NGKSI_ALREADY_IN_USE, None);
         }
         let config = &self.common.config;
-        let answer = check_autn(&config.k, &config.opc, &request.rand, &request.autn, self.common.sqn);
+        let answer = check_autn(
+            &config.k,
+            &config.opc,
+            &request.rand,
+            &request.autn,
+            self.common.sqn,
+        );
         self.answered(answer, request)
     }
 
@@ -138,9 +151,13 @@ impl Work {
         ensures { OnOk result (self.new ≡ answered answer request self.old) }
     {
         match answer {
-            AutnAnswer::Accepted { sqn, res, ck, ik, ak: _ } => {
-                self.accept_challenge(request, Answer { sqn, res, ck, ik })
-            }
+            AutnAnswer::Accepted {
+                sqn,
+                res,
+                ck,
+                ik,
+                ak: _,
+            } => { self.accept_challenge(request, Answer { sqn, res, ck, ik }) }
             AutnAnswer::MacFailure => self.fail(MAC_FAILURE, None),
             AutnAnswer::NotFiveG => self.fail(NON_5G_AUTHENTICATION_UNACCEPTABLE, None),
             AutnAnswer::SynchFailure { auts } => self.fail(SYNCH_FAILURE, Some(auts)),
@@ -153,7 +170,13 @@ impl Work {
         ensures { OnOk result (self.new ≡ accepted request answer.sqn answer.res answer.ck answer.ik self.old) }
     {
         let config = &self.common.config;
-        let res_star = res_star(&answer.ck, &answer.ik, &config.plmn, &request.rand, &answer.res);
+        let res_star = res_star(
+            &answer.ck,
+            &answer.ik,
+            &config.plmn,
+            &request.rand,
+            &answer.res,
+        );
         let pending = Pending {
             challenge: Challenge {
                 sqn: answer.sqn,

@@ -8,7 +8,10 @@ use crate::security_mode::Command;
 use crate::work::Work;
 use collision_rules::{Action, collide_mm, permitted_ue};
 use mm_messages::{Mm, MmRefusal, decode_mm, kind_of};
-use nas_base::mm_cause::{INVALID_MANDATORY_INFORMATION, MESSAGE_TYPE_NON_EXISTENT_OR_NOT_IMPLEMENTED, MESSAGE_TYPE_NOT_COMPATIBLE_WITH_THE_PROTOCOL_STATE};
+use nas_base::mm_cause::{
+    INVALID_MANDATORY_INFORMATION, MESSAGE_TYPE_NON_EXISTENT_OR_NOT_IMPLEMENTED,
+    MESSAGE_TYPE_NOT_COMPATIBLE_WITH_THE_PROTOCOL_STATE,
+};
 use nas_base::{Memory, MmKind, Writer};
 use nas_layout::Half;
 use nas_security::Context;
@@ -90,7 +93,9 @@ impl Work {
         match decode_mm(alloc, octets) {
             Ok(message) => self.plain_message(message),
             Err(MmRefusal::Ignored { at: _ }) => Ok(()),
-            Err(MmRefusal::UnknownType { n: _ }) => self.status(MESSAGE_TYPE_NON_EXISTENT_OR_NOT_IMPLEMENTED),
+            Err(MmRefusal::UnknownType { n: _ }) => self.status(
+                MESSAGE_TYPE_NON_EXISTENT_OR_NOT_IMPLEMENTED,
+            ),
             Err(MmRefusal::Mandatory { part: _, at: _ }) => {
                 if is_permitted_type(octet_at(octets, 2)) {
                     return self.status(INVALID_MANDATORY_INFORMATION);
@@ -139,7 +144,12 @@ impl Work {
     }
 
     #[tactic(auto, unfolding(nas_base::specs::Branches::per))]
-    fn frame_under_current(&mut self, alloc: Global, context: &Context, octets: &[u8]) -> Result<(), Memory>
+    fn frame_under_current(
+        &mut self,
+        alloc: Global,
+        context: &Context,
+        octets: &[u8],
+    ) -> Result<(), Memory>
         ensures { OnOk result (self.new ≡ frame_under_current context.now octets.now self.old) }
     {
         let mut out = Writer::new();
@@ -158,7 +168,9 @@ impl Work {
         match decode_mm(alloc, octets) {
             Ok(message) => self.by_table(message),
             Err(MmRefusal::Ignored { at: _ }) => Ok(()),
-            Err(MmRefusal::UnknownType { n: _ }) => self.status(MESSAGE_TYPE_NON_EXISTENT_OR_NOT_IMPLEMENTED),
+            Err(MmRefusal::UnknownType { n: _ }) => self.status(
+                MESSAGE_TYPE_NON_EXISTENT_OR_NOT_IMPLEMENTED,
+            ),
             Err(MmRefusal::Mandatory { part: _, at: _ }) => {
                 if octet_at(octets, 2) == FIVE_GMM_STATUS {
                     return Ok(());
@@ -198,9 +210,10 @@ impl Work {
             Mm::RegistrationReject { cause } => self.registration_rejected(cause),
             Mm::ServiceAccept { status: _ } => self.service_accepted(),
             Mm::ServiceReject { cause, status: _ } => self.service_rejected(cause),
-            Mm::DeregistrationRequestUeTerminated { switch_off: _, cause: _ } => {
-                self.deregistration_requested()
-            }
+            Mm::DeregistrationRequestUeTerminated {
+                switch_off: _,
+                cause: _,
+            } => { self.deregistration_requested() }
             Mm::DeregistrationAcceptUeOriginating => self.deregister(),
             Mm::DlNasTransport {
                 container_type,

@@ -14,7 +14,11 @@ use nas_timers::TimerId;
 const SENDINGS: u8 = 5;
 
 // The request of a deregistration.
-fn deregistration_request(config: &HandsetConfig, switch_off: bool, deregistration: &Deregistration) -> Mm
+fn deregistration_request(
+    config: &HandsetConfig,
+    switch_off: bool,
+    deregistration: &Deregistration,
+) -> Mm
     ensures { result ≡ deregistration_request config.now switch_off deregistration.now }
 {
     Mm::DeregistrationRequestUeOriginating {

@@ -47,7 +47,9 @@ impl Framed {
                 Protection::Plain => self.plain(alloc, fresh, &message),
                 Protection::IntegrityProtected => self.protected(alloc, supi, 1, fresh, &message),
                 Protection::Ciphered => self.protected(alloc, supi, 2, fresh, &message),
-                Protection::CipheredWithNewContext => self.protected(alloc, supi, 4, fresh, &message),
+                Protection::CipheredWithNewContext => self.protected(
+                    alloc, supi, 4, fresh, &message,
+                ),
             },
         }
     }

@@ -28,8 +28,8 @@ mod transport;
 mod view;
 mod work;
 
-pub use crate::common::{Common, Pending, Stored};
 pub use crate::authentication::Request;
+pub use crate::common::{Common, Pending, Stored};
 pub use crate::config::HandsetConfig;
 pub use crate::inputs::{MmCommand, StepRefusal, UeInput};
 pub use crate::outs::{UeOut, UeOuts};

@@ -32,7 +32,10 @@ pub enum UeOut {
     /// Sessions outside this set are inactive.
     Keep(Status),
     /// A timer is started.
-    Start { id: TimerId, at: Moment },
+    Start {
+        id: TimerId,
+        at: Moment,
+    },
     /// A timer is stopped.
     Stop(TimerId),
 }

@@ -27,7 +27,11 @@ fn type_of(kind: Kind) -> RegistrationType
 
 /// The request of a registration, with the sessions that are told, if any.
 #[tactic(auto, using(crate::proofs::Fits::request_fits))]
-pub fn registration_request(config: &HandsetConfig, registration: &Registration, sessions: Option<Status>) -> Mm
+pub fn registration_request(
+    config: &HandsetConfig,
+    registration: &Registration,
+    sessions: Option<Status>,
+) -> Mm
     ensures value { result ≡ registration_request config.now registration.now sessions }
     ensures limit { length (spelling result) ≤ 4096 }
 {

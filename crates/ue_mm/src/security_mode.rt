@@ -72,7 +72,12 @@ fn made(pending: &Pending, algs: Algs) -> Context
 }
 
 // The whole request of a registration.
-fn whole_request(alloc: Global, config: &HandsetConfig, registration: &Registration, held: Status) -> Result<Octets, Memory>
+fn whole_request(
+    alloc: Global,
+    config: &HandsetConfig,
+    registration: &Registration,
+    held: Status,
+) -> Result<Octets, Memory>
     ensures { IfOk result (λ octets. octets ≡ whole_request config.now registration.now held) }
 {
     let sessions = told_sessions(registration.kind, held);
@@ -90,7 +95,12 @@ fn whole_request(alloc: Global, config: &HandsetConfig, registration: &Registrat
 impl Work {
     /// A frame of header type 3 that holds a SECURITY MODE COMMAND.
     #[tactic(auto, unfolding(crate::specs::SecurityMode::security_mode_commanded, nas_base::specs::Branches::chosen))]
-    pub fn security_mode_commanded(&mut self, alloc: Global, command: &Command, octets: &[u8]) -> Result<(), Memory>
+    pub fn security_mode_commanded(
+        &mut self,
+        alloc: Global,
+        command: &Command,
+        octets: &[u8],
+    ) -> Result<(), Memory>
         ensures { OnOk result (self.new ≡ security_mode_commanded command.now octets.now self.old) }
     {
         if !are_supported(command.algs) {
@@ -101,7 +111,12 @@ impl Work {
 
     // The ngKSI picks the pending key or the current context.
     #[tactic(auto, unfolding(nas_base::specs::Branches::per))]
-    fn command_picked(&mut self, alloc: Global, command: &Command, octets: &[u8]) -> Result<(), Memory>
+    fn command_picked(
+        &mut self,
+        alloc: Global,
+        command: &Command,
+        octets: &[u8],
+    ) -> Result<(), Memory>
         requires { are_supported command.now.algs ≡ true }
         ensures { OnOk result (self.new ≡ command_picked command.now octets.now self.old) }
     {
@@ -142,7 +157,13 @@ impl Work {
 
     // The command under a pending key.
     #[tactic(auto, unfolding(nas_base::specs::Branches::per))]
-    fn command_under_pending(&mut self, alloc: Global, command: &Command, context: &Context, octets: &[u8]) -> Result<(), Memory>
+    fn command_under_pending(
+        &mut self,
+        alloc: Global,
+        command: &Command,
+        context: &Context,
+        octets: &[u8],
+    ) -> Result<(), Memory>
         ensures { OnOk result (self.new ≡ command_under_pending command.now context.now octets.now self.old) }
     {
         let mut out = Writer::new();
@@ -155,7 +176,12 @@ impl Work {
 
     // A command that passed under a pending key.
     #[tactic(auto, unfolding(crate::specs::SecurityMode::command_passed, nas_base::specs::Branches::chosen))]
-    fn command_passed(&mut self, alloc: Global, command: &Command, context: Context) -> Result<(), Memory>
+    fn command_passed(
+        &mut self,
+        alloc: Global,
+        command: &Command,
+        context: Context,
+    ) -> Result<(), Memory>
         ensures { OnOk result (self.new ≡ command_passed command.now context self.old) }
     {
         if is_acceptable(command, &self.common.config) {
@@ -183,7 +209,13 @@ impl Work {
 
     // The command under the current context: it was sent again, since its answer was lost.
     #[tactic(auto, unfolding(nas_base::specs::Branches::chosen, nas_base::specs::Branches::per))]
-    fn command_under_current(&mut self, alloc: Global, command: &Command, context: &Context, octets: &[u8]) -> Result<(), Memory>
+    fn command_under_current(
+        &mut self,
+        alloc: Global,
+        command: &Command,
+        context: &Context,
+        octets: &[u8],
+    ) -> Result<(), Memory>
         ensures { OnOk result (self.new ≡ command_under_current command.now context.now octets.now self.old) }
     {
         let mut out = Writer::new();

@@ -36,7 +36,12 @@ fn ul_transport(psi: Psi, dnn: Option<Dnn>, frame: Octets) -> Mm
 impl Work {
     /// DL NAS TRANSPORT.
     #[tactic(auto, unfolding(crate::specs::Transport::transported, nas_base::specs::Branches::chosen, nas_base::specs::Branches::per))]
-    pub fn transported(&mut self, container_type: Half, container: Octets, cause: Option<u8>) -> Result<(), Memory>
+    pub fn transported(
+        &mut self,
+        container_type: Half,
+        container: Octets,
+        cause: Option<u8>,
+    ) -> Result<(), Memory>
         ensures { OnOk result (self.new ≡ transported container_type container cause self.old) }
     {
         if container_type != N1_SM {
