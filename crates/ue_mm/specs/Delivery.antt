@@ -1,0 +1,151 @@
+-- What a handset makes of octets that reach it (TS 24.501 clauses 4.4.4.2 and 7).
+use Rattle.std.specs.Prelude.{ℕ, Bool, false, not, ◌==◌, ◌||◌, ◌%◌, List, length, drop, slice_index_or, nat_lt, Option, Some, None, Result, Ok, Err, if◌then◌else◌}
+use Rattle.nas_base.specs.Branches.{per, when◌then◌else◌}
+use Rattle.nas_base.specs.Kinds.{mm_kind}
+use Rattle.collision_rules.specs.Mm.{collide_mm}
+use Rattle.collision_rules.specs.Plain.{permitted_ue}
+use Rattle.collision_rules.specs.declared.action.Action.{Action}
+use Rattle.collision_rules.specs.declared.action.Action.TheVariants.{Take, Discard, Status98, Status43, Status47}
+use Rattle.nas_security.specs.Contexts.{SecurityContext}
+use Rattle.mm_messages.specs.KindOf.{kind_of}
+use Rattle.mm_messages.specs.Messages.{mm_in}
+use Rattle.mm_messages.specs.declared.message.Mm.{Mm}
+use Rattle.mm_messages.specs.declared.message.Mm.TheVariants.{RegistrationRequest, RegistrationAccept, RegistrationComplete, RegistrationReject, DeregistrationRequestUeOriginating, DeregistrationAcceptUeOriginating, DeregistrationRequestUeTerminated, DeregistrationAcceptUeTerminated, ServiceRequest, ServiceReject, ServiceAccept, ConfigurationUpdateCommand, ConfigurationUpdateComplete, AuthenticationRequest, AuthenticationResponse, AuthenticationReject, AuthenticationFailure, IdentityRequest, IdentityResponse, SecurityModeCommand, SecurityModeComplete, SecurityModeReject, FiveGmmStatus, UlNasTransport, DlNasTransport}
+use Rattle.mm_messages.specs.declared.message.MmRefusal.{MmRefusal}
+use Rattle.mm_messages.specs.declared.message.MmRefusal.TheVariants as refusals
+use Rattle.ue_mm.specs.Authentication.{authentication_requested}
+use Rattle.ue_mm.specs.Checks.{Opened, counted, opened}
+use Rattle.ue_mm.specs.Connection.{deregistered, erased}
+use Rattle.ue_mm.specs.Deregistration.{deregistration_requested}
+use Rattle.ue_mm.specs.Identification.{identity_requested}
+use Rattle.ue_mm.specs.Registration.{registration_accepted, registration_rejected}
+use Rattle.ue_mm.specs.SecurityMode.{security_mode_commanded}
+use Rattle.ue_mm.specs.Service.{service_accepted, service_rejected}
+use Rattle.ue_mm.specs.State.{word_of}
+use Rattle.ue_mm.specs.Transport.{transported}
+use Rattle.ue_mm.specs.Work.{status}
+use Rattle.ue_mm.specs.declared.security_mode.Command.{Command}
+use Rattle.ue_mm.specs.declared.work.Work.{Work}
+
+-- The row of each message that the table of collisions takes. SECURITY MODE COMMAND has its row under header type 3 alone.
+unfoldable pub taken : Mm → Work → Work
+taken (AuthenticationRequest ksi abba rand autn) w = authentication_requested ksi abba rand autn w
+taken AuthenticationReject w = erased (deregistered w)
+taken (IdentityRequest identity_type) w = identity_requested identity_type w
+taken (RegistrationAccept result guti tai_list nssai status t3512) w = registration_accepted guti status w
+taken (RegistrationReject cause) w = registration_rejected cause w
+taken (ServiceAccept status) w = service_accepted w
+taken (ServiceReject cause status) w = service_rejected cause w
+taken (DeregistrationRequestUeTerminated switch_off cause) w = deregistration_requested w
+taken DeregistrationAcceptUeOriginating w = deregistered w
+taken (DlNasTransport container_type container psi cause) w = transported container_type container cause w
+taken (SecurityModeCommand algs ksi capability information) w = w
+taken (RegistrationRequest registration ksi identity capability status) w = w
+taken RegistrationComplete w = w
+taken (DeregistrationRequestUeOriginating switch_off ksi identity) w = w
+taken DeregistrationAcceptUeTerminated w = w
+taken (ServiceRequest ksi service_type identity status) w = w
+taken (ConfigurationUpdateCommand indication guti) w = w
+taken ConfigurationUpdateComplete w = w
+taken (AuthenticationResponse res_star) w = w
+taken (AuthenticationFailure cause auts) w = w
+taken (IdentityResponse identity) w = w
+taken (SecurityModeComplete message) w = w
+taken (SecurityModeReject cause) w = w
+taken (FiveGmmStatus cause) w = w
+taken (UlNasTransport container_type container psi request_type slice dnn) w = w
+
+abbrev pub action : Mm → Work → Action
+action message w = collide_mm (word_of w.phase) (kind_of message)
+
+-- STATUS 97 and 96 answer a type that isn't known, and a mandatory part that is cut or wrong; 5GMM STATUS is never answered
+-- (clauses 7.4 and 7.5.1)
+abbrev pub five_gmm_status : ℕ
+five_gmm_status = 0x64
+
+abbrev pub faulty : List ℕ → Work → Work
+faulty octets w = when slice_index_or octets 2 0 == five_gmm_status then w else status 96 w
+
+-- A message that passed goes by the table.
+abbrev pub by_table : Action → Mm → Work → Work
+by_table Take message w = taken message w
+by_table Status98 message w = status 98 w
+by_table Discard message w = w
+by_table Status43 message w = w
+by_table Status47 message w = w
+
+abbrev pub passed_read : Result Mm MmRefusal → List ℕ → Work → Work
+passed_read (Ok message) octets w = by_table (action message w) message w
+passed_read (Err (refusals.Ignored at)) octets w = w
+passed_read (Err (refusals.UnknownType n)) octets w = status 97 w
+passed_read (Err (refusals.Mandatory n at)) octets w = faulty octets w
+passed_read (Err refusals.Memory) octets w = w
+
+unfoldable pub passed : List ℕ → Work → Work
+passed octets w = passed_read (mm_in octets) octets w
+
+-- The plain messages that are taken before secure exchange (clause 4.4.4.2): those of the table, an IDENTITY REQUEST where it asks
+-- for the SUCI, and a reject unless its cause is from 72 to 86, which is a choice of this project.
+abbrev pub may_reject : ℕ → Bool
+may_reject cause = nat_lt cause 72 || nat_lt 86 cause
+
+abbrev pub is_plain_allowed : Mm → Bool
+is_plain_allowed (IdentityRequest identity_type) = identity_type == 1
+is_plain_allowed (RegistrationReject cause) = may_reject cause
+is_plain_allowed (ServiceReject cause status) = may_reject cause
+is_plain_allowed message = permitted_ue (kind_of message)
+
+-- Where the table says STATUS 98, a plain message is discarded.
+abbrev pub plain_by_table : Action → Mm → Work → Work
+plain_by_table Take message w = taken message w
+plain_by_table Status98 message w = w
+plain_by_table Discard message w = w
+plain_by_table Status43 message w = w
+plain_by_table Status47 message w = w
+
+abbrev pub is_permitted_type : ℕ → Bool
+is_permitted_type code = per (mm_kind code) false permitted_ue
+
+abbrev pub plain_message : Mm → Work → Work
+plain_message message w = when is_plain_allowed message then plain_by_table (action message w) message w else w
+
+abbrev pub plain_read : Result Mm MmRefusal → List ℕ → Work → Work
+plain_read (Ok message) octets w = plain_message message w
+plain_read (Err (refusals.Ignored at)) octets w = w
+plain_read (Err (refusals.UnknownType n)) octets w = status 97 w
+plain_read (Err (refusals.Mandatory n at)) octets w = when is_permitted_type (slice_index_or octets 2 0) then status 96 w else w
+plain_read (Err refusals.Memory) octets w = w
+
+unfoldable pub plain : List ℕ → Work → Work
+plain octets w = when w.common.secure then w else plain_read (mm_in octets) octets w
+
+-- a frame of header type 3, by the command inside
+abbrev pub command_of : Result Mm MmRefusal → Option Command
+command_of (Ok (SecurityModeCommand algs ksi capability information)) =
+    Some (record { algs = algs; ksi = ksi; capability = capability; information = information })
+command_of read = None
+
+unfoldable pub new_context : List ℕ → Work → Work
+new_context octets w =
+    per (command_of (mm_in (drop 7 octets))) w (λ (command : Command). security_mode_commanded command octets w)
+
+-- a frame of header type 1, 2 or 4, under the current context
+abbrev pub frame_under_current : SecurityContext → List ℕ → Work → Work
+frame_under_current context octets w =
+    per (opened context octets) w (λ (o : Opened). passed o.message (counted context o.count w))
+
+unfoldable pub protected : List ℕ → Work → Work
+protected octets w = per w.common.current w (λ (context : SecurityContext). frame_under_current context octets w)
+
+-- the security header type
+abbrev pub header_of : List ℕ → ℕ
+header_of octets = slice_index_or octets 1 0 % 16
+
+-- A handset without a connection ignores all octets, and every handset those that are more than 4,096. A plain message and
+-- one of header type 3 are told by their second octet; all others are checked under the current context.
+unfoldable pub delivered : List ℕ → Work → Work
+delivered octets w =
+    when not w.common.connected || nat_lt 4096 (length octets) then w
+    else (when header_of octets == 0 then plain octets w
+    else (when header_of octets == 3 then new_context octets w
+    else protected octets w))

@@ -1,0 +1,270 @@
+//! What a handset makes of octets that reach it.
+ghost use Rattle.std.specs.Prelude.{◌≡◌, drop, slice_index_or, IfOk, Ok, OnOk};
+ghost use Rattle.mm_messages.specs.Messages.{mm_in};
+ghost use Rattle.ue_mm.specs.Delivery.{action, by_table, command_of, delivered, faulty, header_of, is_permitted_type, is_plain_allowed, may_reject, new_context, passed, plain, plain_message, protected, taken, frame_under_current};
+
+use crate::checks::open;
+use crate::security_mode::Command;
+use crate::work::Work;
+use collision_rules::{Action, collide_mm, permitted_ue};
+use mm_messages::{Mm, MmRefusal, decode_mm, kind_of};
+use nas_base::mm_cause::{
+    INVALID_MANDATORY_INFORMATION, MESSAGE_TYPE_NON_EXISTENT_OR_NOT_IMPLEMENTED,
+    MESSAGE_TYPE_NOT_COMPATIBLE_WITH_THE_PROTOCOL_STATE,
+};
+use nas_base::{Memory, MmKind, Writer};
+use nas_layout::Half;
+use nas_security::Context;
+use std::alloc::Global;
+
+// Octets of a message at most, of a frame as of a plain one.
+const LONGEST: usize = 4096;
+
+// The message type of 5GMM STATUS, which is never answered (TS 24.501 clause 7.5.1).
+const FIVE_GMM_STATUS: u8 = 0x64;
+
+// Type of identity SUCI (TS 24.501 clause 9.11.3.3).
+const SUCI: Half = Half(1);
+
+// Whether a plain reject with this cause is taken (TS 24.501 clause 4.4.4.2).
+fn may_reject(cause: u8) -> bool
+    ensures { result ≡ may_reject cause }
+{
+    cause < 72 || 86 < cause
+}
+
+// Whether a plain message is taken before secure exchange.
+fn is_plain_allowed(message: &Mm) -> bool
+    ensures { result ≡ is_plain_allowed message.now }
+{
+    match message {
+        Mm::IdentityRequest { identity_type } => *identity_type == SUCI,
+        Mm::RegistrationReject { cause } => may_reject(*cause),
+        Mm::ServiceReject { cause, status: _ } => may_reject(*cause),
+        _ => permitted_ue(kind_of(message)),
+    }
+}
+
+// Whether a plain message of this type is answered where a part of it is wrong.
+#[tactic(auto, unfolding(nas_base::specs::Branches::per))]
+fn is_permitted_type(code: u8) -> bool
+    ensures { result ≡ is_permitted_type code }
+{
+    match MmKind::from_code(code) {
+        Some(kind) => permitted_ue(kind),
+        None => false,
+    }
+}
+
+// An octet, 0 where there is none.
+fn octet_at(octets: &[u8], index: usize) -> u8
+    ensures { result ≡ slice_index_or octets.now index 0 }
+{
+    match octets.get(index) {
+        Some(octet) => *octet,
+        None => 0,
+    }
+}
+
+impl Work {
+    /// Octets reached the handset.
+    #[tactic(auto, unfolding(crate::specs::Delivery::delivered, nas_base::specs::Branches::chosen))]
+    pub fn delivered(&mut self, alloc: Global, octets: &[u8]) -> Result<(), Memory>
+        ensures { OnOk result (self.new ≡ delivered octets.now self.old) }
+    {
+        if !self.common.connected || octets.len() > LONGEST {
+            return Ok(());
+        }
+        match octet_at(octets, 1) % 16 {
+            0 => self.plain(alloc, octets),
+            3 => self.new_context(alloc, octets),
+            _ => self.protected(alloc, octets),
+        }
+    }
+
+    // A plain message.
+    #[tactic(auto, unfolding(crate::specs::Delivery::plain, nas_base::specs::Branches::chosen))]
+    fn plain(&mut self, alloc: Global, octets: &[u8]) -> Result<(), Memory>
+        ensures { OnOk result (self.new ≡ plain octets.now self.old) }
+    {
+        if self.common.secure {
+            return Ok(());
+        }
+        match decode_mm(alloc, octets) {
+            Ok(message) => self.plain_message(message),
+            Err(MmRefusal::Ignored { at: _ }) => Ok(()),
+            Err(MmRefusal::UnknownType { n: _ }) => self.status(
+                MESSAGE_TYPE_NON_EXISTENT_OR_NOT_IMPLEMENTED,
+            ),
+            Err(MmRefusal::Mandatory { part: _, at: _ }) => {
+                if is_permitted_type(octet_at(octets, 2)) {
+                    return self.status(INVALID_MANDATORY_INFORMATION);
+                }
+                Ok(())
+            }
+            Err(MmRefusal::Memory) => Err(Memory),
+        }
+    }
+
+    // A plain message by the table. It is taken, or nothing is done.
+    #[tactic(auto, unfolding(nas_base::specs::Branches::chosen))]
+    fn plain_message(&mut self, message: Mm) -> Result<(), Memory>
+        ensures { OnOk result (self.new ≡ plain_message message self.old) }
+    {
+        if !is_plain_allowed(&message) {
+            return Ok(());
+        }
+        match collide_mm(self.phase.word(), kind_of(&message)) {
+            Action::Take => self.taken(message),
+            Action::Discard | Action::Status98 | Action::Status43 | Action::Status47 => Ok(()),
+        }
+    }
+
+    // A frame of header type 3, by the command inside.
+    #[tactic(auto, unfolding(crate::specs::Delivery::new_context, nas_base::specs::Branches::per))]
+    fn new_context(&mut self, alloc: Global, octets: &[u8]) -> Result<(), Memory>
+        ensures { OnOk result (self.new ≡ new_context octets.now self.old) }
+    {
+        let inside = inside(octets);
+        match command_in(alloc, inside)? {
+            Some(command) => self.security_mode_commanded(alloc, &command, octets),
+            None => Ok(()),
+        }
+    }
+
+    // A frame of another header type, under the current context.
+    #[tactic(auto, unfolding(crate::specs::Delivery::protected, nas_base::specs::Branches::per))]
+    fn protected(&mut self, alloc: Global, octets: &[u8]) -> Result<(), Memory>
+        ensures { OnOk result (self.new ≡ protected octets.now self.old) }
+    {
+        match self.common.current {
+            Some(context) => self.frame_under_current(alloc, &context, octets),
+            None => Ok(()),
+        }
+    }
+
+    #[tactic(auto, unfolding(nas_base::specs::Branches::per))]
+    fn frame_under_current(
+        &mut self,
+        alloc: Global,
+        context: &Context,
+        octets: &[u8],
+    ) -> Result<(), Memory>
+        ensures { OnOk result (self.new ≡ frame_under_current context.now octets.now self.old) }
+    {
+        let mut out = Writer::new();
+        let Some(count) = open(context, octets, &mut out) else {
+            return Ok(());
+        };
+        self.count(context, count)?;
+        self.passed(alloc, out.octets())
+    }
+
+    // The plain octets of a frame that passed.
+    #[tactic(auto, unfolding(crate::specs::Delivery::passed, nas_base::specs::Branches::chosen))]
+    fn passed(&mut self, alloc: Global, octets: &[u8]) -> Result<(), Memory>
+        ensures { OnOk result (self.new ≡ passed octets.now self.old) }
+    {
+        match decode_mm(alloc, octets) {
+            Ok(message) => self.by_table(message),
+            Err(MmRefusal::Ignored { at: _ }) => Ok(()),
+            Err(MmRefusal::UnknownType { n: _ }) => self.status(
+                MESSAGE_TYPE_NON_EXISTENT_OR_NOT_IMPLEMENTED,
+            ),
+            Err(MmRefusal::Mandatory { part: _, at: _ }) => {
+                if octet_at(octets, 2) == FIVE_GMM_STATUS {
+                    return Ok(());
+                }
+                self.status(INVALID_MANDATORY_INFORMATION)
+            }
+            Err(MmRefusal::Memory) => Err(Memory),
+        }
+    }
+
+    // A message that passed, by the table.
+    fn by_table(&mut self, message: Mm) -> Result<(), Memory>
+        ensures { OnOk result (self.new ≡ by_table (action message self.old) message self.old) }
+    {
+        match collide_mm(self.phase.word(), kind_of(&message)) {
+            Action::Take => self.taken(message),
+            Action::Status98 => self.status(MESSAGE_TYPE_NOT_COMPATIBLE_WITH_THE_PROTOCOL_STATE),
+            Action::Discard | Action::Status43 | Action::Status47 => Ok(()),
+        }
+    }
+
+    // The row of a message that the table takes. SECURITY MODE COMMAND has its row under header type 3 alone.
+    #[tactic(auto, unfolding(crate::specs::Delivery::taken))]
+    fn taken(&mut self, message: Mm) -> Result<(), Memory>
+        ensures { OnOk result (self.new ≡ taken message self.old) }
+    {
+        match message {
+            Mm::AuthenticationRequest {
+                ksi,
+                abba,
+                rand,
+                autn,
+            } => self.authentication_requested(ksi, abba, rand, autn),
+            Mm::AuthenticationReject => self.deregister_and_erase(),
+            Mm::IdentityRequest { identity_type } => self.identity_requested(identity_type),
+            Mm::RegistrationAccept { guti, status, .. } => self.registration_accepted(guti, status),
+            Mm::RegistrationReject { cause } => self.registration_rejected(cause),
+            Mm::ServiceAccept { status: _ } => self.service_accepted(),
+            Mm::ServiceReject { cause, status: _ } => self.service_rejected(cause),
+            Mm::DeregistrationRequestUeTerminated {
+                switch_off: _,
+                cause: _,
+            } => { self.deregistration_requested() }
+            Mm::DeregistrationAcceptUeOriginating => self.deregister(),
+            Mm::DlNasTransport {
+                container_type,
+                container,
+                psi: _,
+                cause,
+            } => self.transported(container_type, container, cause),
+            _ => Ok(()),
+        }
+    }
+}
+
+// The SECURITY MODE COMMAND in octets, if they are one.
+fn command_in(alloc: Global, octets: &[u8]) -> Result<Option<Command>, Memory>
+    ensures { IfOk result (λ command. command ≡ command_of (mm_in octets.now)) }
+{
+    match decode_mm(alloc, octets) {
+        Ok(message) => Ok(command_of(&message)),
+        Err(MmRefusal::Memory) => Err(Memory),
+        Err(MmRefusal::Ignored { at: _ })
+        | Err(MmRefusal::UnknownType { n: _ })
+        | Err(MmRefusal::Mandatory { part: _, at: _ }) => Ok(None),
+    }
+}
+
+// A message as a SECURITY MODE COMMAND, if it is one.
+fn command_of(message: &Mm) -> Option<Command>
+    ensures { result ≡ command_of (Ok message.now) }
+{
+    match message {
+        Mm::SecurityModeCommand {
+            algs,
+            ksi,
+            capability,
+            asi,
+        } => Some(Command {
+            algs: *algs,
+            ksi: *ksi,
+            capability: capability.copy(),
+            information: *asi,
+        }),
+        _ => None,
+    }
+}
+
+// What stands behind the head of a frame.
+fn inside(octets: &[u8]) -> &[u8]
+    ensures { result.now ≡ drop 7 octets.now }
+{
+    match octets.get(7..) {
+        Some(inside) => inside,
+        None => &[],
+    }
+}

@@ -1,0 +1,131 @@
+//! How what is said becomes octets: spelled, and protected under the current context.
+ghost use Rattle.std.specs.Prelude.{◌≡◌, ◌≤◌, [], OnOk, length};
+ghost use Rattle.mm_messages.specs.Messages.{spelling};
+ghost use Rattle.ue_mm.specs.Framing.{IsSpelled, framed, framed_all, framed_out, framed_plain, framed_protected};
+ghost use Rattle.ue_mm.specs.declared.outs.UeOut.TheVariants.{Send};
+
+use crate::acts::{Act, Acts, Protection};
+use crate::{UeOut, UeOuts};
+use mm_messages::{Mm, encode_mm};
+use nas_base::{Dir, Memory, Octets, Supi, Writer};
+use nas_security::{Context, Pass, protect};
+use std::alloc::Global;
+
+// Octets of a message at most whose frame has 4,096.
+const LONGEST: usize = 4089;
+
+/// The current context, whose counts the messages take, and what was sent and told so far.
+#[derive(Drop)]
+pub struct Framed {
+    pub current: Option<Context>,
+    pub outs: UeOuts,
+}
+
+impl Framed {
+    /// What was said, one after the other.
+    pub fn all(&mut self, alloc: Global, supi: &Supi, acts: Acts) -> Result<(), Memory>
+        ensures { OnOk result (self.new ≡ framed_all supi.now acts self.old) }
+    {
+        for act in acts.items {
+            self.one(alloc, supi, act)?;
+        }
+        Ok(())
+    }
+
+    // One thing that was said.
+    #[tactic(auto, unfolding(crate::specs::Framing::framed))]
+    fn one(&mut self, alloc: Global, supi: &Supi, act: Act) -> Result<(), Memory>
+        ensures { OnOk result (self.new ≡ framed supi.now act self.old) }
+    {
+        match act {
+            Act::Tell(out) => self.outs.push(out),
+            Act::Say {
+                fresh,
+                protection,
+                message,
+            } => match protection {
+                Protection::Plain => self.plain(alloc, fresh, &message),
+                Protection::IntegrityProtected => self.protected(alloc, supi, 1, fresh, &message),
+                Protection::Ciphered => self.protected(alloc, supi, 2, fresh, &message),
+                Protection::CipheredWithNewContext => self.protected(
+                    alloc, supi, 4, fresh, &message,
+                ),
+            },
+        }
+    }
+
+    // A plain message.
+    #[tactic(auto, unfolding(nas_base::specs::Branches::chosen))]
+    fn plain(&mut self, alloc: Global, fresh: bool, message: &Mm) -> Result<(), Memory>
+        ensures { OnOk result (self.new ≡ framed_plain fresh (spelling message.now) self.old) }
+    {
+        let mut out = Writer::new();
+        if !spelled(message, &mut out) {
+            return Ok(());
+        }
+        self.send(alloc, fresh, out.octets(), None)
+    }
+
+    // A message under the current context.
+    #[tactic(auto, unfolding(nas_base::specs::Branches::chosen, nas_base::specs::Branches::per))]
+    fn protected(
+        &mut self,
+        alloc: Global,
+        supi: &Supi,
+        header: u8,
+        fresh: bool,
+        message: &Mm,
+    ) -> Result<(), Memory>
+        requires { (1 ≤ header) × (header ≤ 4) }
+        ensures { OnOk result (self.new ≡ framed_protected supi.now header fresh (spelling message.now) self.old) }
+    {
+        let Some(mut context) = self.current else {
+            return Ok(());
+        };
+        let mut plain = Writer::new();
+        if !spelled(message, &mut plain) {
+            return Ok(());
+        }
+        let mut out = Writer::new();
+        let challenge = context.challenge;
+        let Ok(count) = protect(&mut context, Dir::Up, header, plain.octets(), &mut out) else {
+            return Ok(());
+        };
+        self.current = Some(context);
+        let pass = Pass {
+            supi: supi.copy(),
+            challenge,
+            count,
+        };
+        self.send(alloc, fresh, out.octets(), Some(pass))
+    }
+
+    // Octets go out.
+    fn send(
+        &mut self,
+        alloc: Global,
+        fresh: bool,
+        octets: &[u8],
+        pass: Option<Pass>,
+    ) -> Result<(), Memory>
+        requires { length octets.now ≤ 4100 }
+        ensures { OnOk result (self.new ≡ framed_out (Send fresh octets.now pass) self.old) }
+    {
+        let Ok(octets) = Octets::copy(alloc, octets) else {
+            return Err(Memory);
+        };
+        self.outs.push(UeOut::Send {
+            fresh,
+            octets,
+            pass,
+        })
+    }
+}
+
+// Spells a message whose frame doesn't have more than 4,096 octets.
+fn spelled(message: &Mm, out: &mut Writer) -> bool
+    requires { out.old ≡ [] }
+    ensures { IsSpelled result out.new (spelling message.now) }
+{
+    encode_mm(message, out).is_ok() && out.octets().len() <= LONGEST
+}
