@@ -55,3 +55,10 @@ Steps old (Ok (new, outs)) step = step ≡ Ok (record { state = state_of new; ou
 Steps old (Err (new, Memory)) step = new ≡ old
 Steps old (Err (new, WrongState word)) step = (new ≡ old) × (step ≡ Err (WrongState word))
 Steps old (Err (new, Spent next)) step = (new ≡ old) × (step ≡ Err (Spent next))
+
+-- the same for a state that its owner keeps
+abbrev pub Follows : Result (UeMm × List UeOut) StepRefusal → Result Stepped StepRefusal → Type 0
+Follows (Ok (new, outs)) step = step ≡ Ok (record { state = state_of new; outs = outs })
+Follows (Err Memory) step = Unit {0}
+Follows (Err (WrongState word)) step = step ≡ Err (WrongState word)
+Follows (Err (Spent next)) step = step ≡ Err (Spent next)

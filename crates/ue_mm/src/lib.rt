@@ -35,5 +35,5 @@ pub use crate::inputs::{MmCommand, StepRefusal, UeInput};
 pub use crate::outs::{UeOut, UeOuts};
 pub use crate::procedures::{Deregistration, Phase, Registration, Service};
 pub use crate::state::UeMm;
-pub use crate::stepping::step;
+pub use crate::stepping::{follow, step};
 pub use crate::view::UeView;

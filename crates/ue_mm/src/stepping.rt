@@ -2,7 +2,7 @@
 ghost use Rattle.std.specs.Prelude.{◌≡◌, IfOk};
 ghost use Rattle.ue_mm.specs.Outcome.{Works};
 ghost use Rattle.ue_mm.specs.State.{state_of};
-ghost use Rattle.ue_mm.specs.Step.{Steps, ended, started, step_of, worked};
+ghost use Rattle.ue_mm.specs.Step.{Follows, Steps, ended, started, step_of, worked};
 
 use crate::acts::Acts;
 use crate::framing::Framed;
@@ -28,6 +28,26 @@ pub fn step(
 ) -> Result<(UeMm, UeOuts), (UeMm, StepRefusal)>
     ensures { Steps state result (step_of (state_of state) now held.now input) }
 {
+    match follow(alloc, &state, now, held, input) {
+        Ok(followed) => Ok(followed),
+        Err(refusal) => Err((state, refusal)),
+    }
+}
+
+/// The step from a state that its owner keeps, to take the new one over when all that comes of it is done.
+///
+/// # Errors
+///
+/// As of `step`.
+pub fn follow(
+    alloc: Global,
+    state: &UeMm,
+    now: Moment,
+    held: &Status,
+    input: UeInput,
+) -> Result<(UeMm, UeOuts), StepRefusal>
+    ensures { Follows result (step_of (state_of state.now) now held.now input) }
+{
     let (common, phase) = state.parts();
     let mut work = Work {
         moment: now,
@@ -36,12 +56,10 @@ pub fn step(
         phase,
         acts: Acts::new(alloc),
     };
-    if let Err(refusal) = work.by_input(alloc, input) {
-        return Err((state, refusal));
-    }
+    work.by_input(alloc, input)?;
     match work.end(alloc) {
         Ok(ended) => Ok(ended),
-        Err(Memory) => Err((state, StepRefusal::Memory)),
+        Err(Memory) => Err(StepRefusal::Memory),
     }
 }
 

@@ -1,0 +1,58 @@
+-- What a handset answers to each event.
+use Rattle.std.specs.Prelude.{◌≡◌, ℕ, List, Result, Ok, Err}
+use Rattle.nas_security.specs.declared.sends.Send.{Send}
+use Rattle.ue_mm.specs.Step.{Stepped}
+use Rattle.ue_mm.specs.declared.inputs.MmCommand.{MmCommand}
+use Rattle.ue_mm.specs.declared.inputs.MmCommand.TheVariants as mm
+use Rattle.ue_mm.specs.declared.inputs.StepRefusal.{StepRefusal}
+use Rattle.ue_mm.specs.declared.inputs.StepRefusal.TheVariants as steps
+use Rattle.ue_mm.specs.declared.inputs.UeInput.TheVariants.{Command, Delivered, Dropped, Restart}
+use Rattle.nas_handset.specs.State.{HandsetState}
+use Rattle.nas_handset.specs.Turns.{begun, onto, stepped, turned}
+use Rattle.nas_handset.specs.declared.command.CommandRefusal.{CommandRefusal}
+use Rattle.nas_handset.specs.declared.command.CommandRefusal.TheVariants.{WrongState, Spent, Memory}
+use Rattle.nas_handset.specs.declared.command.UeCommand.{UeCommand}
+use Rattle.nas_handset.specs.declared.command.UeCommand.TheVariants.{Register, Service, Deregister}
+use Rattle.nas_handset.specs.declared.turn.Turn.{Turn}
+
+-- a command to the handset, as one to its mobility management
+abbrev pub mm_command : UeCommand → MmCommand
+mm_command (Register kind) = mm.Register kind
+mm_command Service = mm.Service
+mm_command (Deregister switch_off) = mm.Deregister switch_off
+
+-- what a command comes to: the turn of its step, or the refusal
+abbrev pub outcome : Result Stepped StepRefusal → HandsetState → Result Turn CommandRefusal
+outcome (Ok s) h = Ok (onto (Ok s) (begun h))
+outcome (Err (steps.WrongState word)) h = Err (WrongState word)
+outcome (Err (steps.Spent next)) h = Err (Spent next)
+outcome (Err steps.Memory) h = Err Memory
+
+unfoldable pub commanded : UeCommand → HandsetState → Result Turn CommandRefusal
+commanded command h = outcome (stepped (Command (mm_command command)) (begun h)) h
+
+-- octets that reach it, the loss of its connection, a restart
+abbrev pub delivered : List ℕ → HandsetState → Turn
+delivered octets h = turned (Delivered octets) (begun h)
+
+abbrev pub dropped : HandsetState → Turn
+dropped h = turned Dropped (begun h)
+
+abbrev pub restarted : HandsetState → Turn
+restarted h = turned Restart (begun h)
+
+-- what a command answered, and the handset behind it
+abbrev pub Commands : HandsetState → HandsetState → Result (List Send) CommandRefusal → Result Turn CommandRefusal → Type 0
+Commands old new (Ok sends) (Ok t) = (new ≡ t.handset) × (sends ≡ t.sends)
+Commands old new (Ok sends) (Err refusal) = ⊥
+Commands old new (Err Memory) row = new ≡ old
+Commands old new (Err (WrongState word)) row = (row ≡ Err (WrongState word)) × (new ≡ old)
+Commands old new (Err (Spent next)) row = (row ≡ Err (Spent next)) × (new ≡ old)
+
+-- what the first step of a turn answered
+abbrev pub StepsFirst : Result Turn StepRefusal → Result Stepped StepRefusal → HandsetState → Type 0
+StepsFirst (Ok t) (Ok s) h = t ≡ onto (Ok s) (begun h)
+StepsFirst (Ok t) (Err refusal) h = ⊥
+StepsFirst (Err steps.Memory) step h = Unit {0}
+StepsFirst (Err (steps.WrongState word)) step h = step ≡ Err (steps.WrongState word)
+StepsFirst (Err (steps.Spent next)) step h = step ≡ Err (steps.Spent next)

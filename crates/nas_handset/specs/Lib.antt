@@ -1,0 +1,4 @@
+pub mod Handset
+pub mod State
+pub mod Ticks
+pub mod Turns
