@@ -1,1 +1,3 @@
+pub mod Branching
 pub mod Fits
+pub mod UncheckedLaws
