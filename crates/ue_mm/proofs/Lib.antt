@@ -1,3 +1,4 @@
 pub mod Branching
 pub mod Fits
+pub mod PlainLaws
 pub mod UncheckedLaws
