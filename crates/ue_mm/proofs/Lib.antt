@@ -1,4 +1,9 @@
 pub mod Branching
 pub mod Fits
+pub mod FramedSummary
 pub mod PlainLaws
+pub mod RowLaws
+pub mod RowTools
+pub mod StepLaws
+pub mod Summary
 pub mod UncheckedLaws
