@@ -1,4 +1,5 @@
 pub mod Branching
+pub mod EventRows
 pub mod Fits
 pub mod FramedSummary
 pub mod PlainLaws

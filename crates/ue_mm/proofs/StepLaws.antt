@@ -8,7 +8,8 @@ use Rattle.ue_mm.specs.declared.inputs.StepRefusal.{StepRefusal}
 use Rattle.ue_mm.specs.declared.inputs.UeInput.{UeInput}
 use Rattle.ue_mm.specs.declared.work.Work.{Work}
 use Rattle.ue_mm.proofs.FramedSummary.{framed_is_sound}
-use Rattle.ue_mm.proofs.RowLaws.{IsWorked, input_is_worked}
+use Rattle.ue_mm.proofs.EventRows.{IsWorked}
+use Rattle.ue_mm.proofs.RowLaws.{input_is_worked}
 use Rattle.ue_mm.proofs.RowTools.{IsDone}
 use Rattle.ue_mm.proofs.Summary.{IsSound, sound_runs, sound_sends, summed, summed_from, summed_outs}
 
