@@ -1,7 +1,9 @@
 pub mod Branching
+pub mod DeliveryRows
 pub mod EventRows
 pub mod Fits
 pub mod FramedSummary
+pub mod MessageRows
 pub mod PlainLaws
 pub mod RowLaws
 pub mod RowTools

@@ -63,7 +63,7 @@ say_is_quiet s link running w fresh protection message unlinked h =
       few = subst (λ (x : Summary). IsOneAtMost link x.sent) (sym e) unlinked;
     }
 
-not_fresh : (link : Bool) → false ≡ true → link ≡ false
+pub not_fresh : (link : Bool) → false ≡ true → link ≡ false
 not_fresh link e = absurd (cc)
 
 pub answer_is_quiet : (s : Summary) (link : Bool) (running : Running) (w : Work) (message : Mm)
