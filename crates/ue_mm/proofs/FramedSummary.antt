@@ -140,7 +140,7 @@ pub framed_is_sound : (supi : List ℕ) (acts : List Act) (s : Summary) (f : Fra
     → IsSound connected phase (summed acts s) → IsSound connected phase (summed_outs (framed_all supi acts f).outs s)
 framed_is_sound supi acts s f connected phase e h =
     let begin : IsSmaller (summed_outs f.outs s) s =
-        subst (λ (outs : List UeOut). IsSmaller (summed_outs outs s) s) (sym e) (record { running = refl; started = refl; sent = is_within s.sent }) in
+    subst (λ (outs : List UeOut). IsSmaller (summed_outs outs s) s) (sym e) (record { running = refl; started = refl; sent = is_within s.sent }) in
     let end = (all_go_out supi acts s s f (record { smaller = begin })).smaller in
     record {
       runs = end.running ∙ h.runs;

@@ -56,7 +56,7 @@ plain_do_by_kind s now held octets reads header short = record {
   permitted = λ m e allowed takes. (
     permitted_kind m allowed,
     done (by_read e
-    ∙ when_true (is_plain_allowed m) (plain_by_table (action m w) m w) w allowed ∙ ap (λ (a : Action). plain_by_table a m w) takes),
+        ∙ when_true (is_plain_allowed m) (plain_by_table (action m w) m w) w allowed ∙ ap (λ (a : Action). plain_by_table a m w) takes),
   );
   not_permitted = λ m e forbidden.
       done (by_read e ∙ when_false (is_plain_allowed m) (plain_by_table (action m w) m w) w forbidden);

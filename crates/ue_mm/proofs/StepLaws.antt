@@ -11,6 +11,7 @@ use Rattle.ue_mm.proofs.FramedSummary.{framed_is_sound}
 use Rattle.ue_mm.proofs.EventRows.{IsWorked}
 use Rattle.ue_mm.proofs.RowLaws.{input_is_worked}
 use Rattle.ue_mm.proofs.RowTools.{IsDone}
+use Rattle.ue_mm.proofs.StopLaws.{left_is_stopped}
 use Rattle.ue_mm.proofs.Summary.{IsSound, sound_runs, sound_sends, summed, summed_from, summed_outs}
 
 -- what a row said is sound, and so is what goes out
@@ -25,8 +26,9 @@ runs : (s : MmState) (input : UeInput) (worked : Result Work StepRefusal)
     → TimersHaveOwners s input (finished worked)
 unfolding ended
 runs s input (Ok w) h =
-    sound_runs (running_at input (running_in s.phase)) s.common.connected w.phase (ended w).outs
-    (goes_out (running_at input (running_in s.phase)) s.common.connected w h)
+    let are = sound_runs (running_at input (running_in s.phase)) s.common.connected w.phase (ended w).outs
+    (goes_out (running_at input (running_in s.phase)) s.common.connected w h) in
+    record { running = are.0; starts = are.1; stops = left_is_stopped s.phase w.phase input (ended w).outs are.0 }
 runs s input (Err refusal) h = tt
 
 pub timers_have_owners : (s : MmState) (now : ℕ) (held : List Bool) (input : UeInput) → TimersHaveOwners s input (step_of s now held input)

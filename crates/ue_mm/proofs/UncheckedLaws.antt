@@ -66,7 +66,7 @@ opened_where_passing context octets small = record {
   nothing = (
     λ e count header message p.
         let other : opened context octets ≡ Some (record { count = count; message = message }) =
-            is_opened context octets count header message small p in
+        is_opened context octets count header message small p in
         cc,
     not_opened context octets small,
   );

@@ -1,5 +1,6 @@
 -- What the definitions of this crate say together.
 use Rattle.std.specs.Prelude.{◌≡◌, ◌≤◌, ◌↔◌, ◌⊎◌, ℕ, Bool, true, false, List, [], ◌∷◌, length, slice_index_or, Option, Some, None, Result, Ok, Err}
+use Rattle.std.specs.List.{Contains}
 use Rattle.nas_base.specs.declared.count.Dir.TheVariants.{Down}
 use Rattle.nas_elements.specs.Algs.{Algorithms}
 use Rattle.nas_security.specs.Contexts.{SecurityContext}
@@ -87,6 +88,17 @@ abbrev pub PlainDoByKind : MmState → ℕ → List Bool → List ℕ → Type 0
 PlainDoByKind s now held octets =
     ReadsPlain s.common → header_of octets ≡ 0 → length octets ≤ 4096 → PlainDo s now held octets
 
+-- A step makes nothing secure: the connection is secure behind it only if it was, and the current context is the one that it was,
+-- with its counts, or there is none.
+abbrev pub SecuresNothing : MmState → Result Stepped StepRefusal → Type 0
+SecuresNothing s (Ok new) =
+    (new.state.common.secure ≡ true → s.common.secure ≡ true)
+    × ((new.state.common.current ≡ None) ⊎ (new.state.common.current ≡ s.common.current))
+SecuresNothing s (Err refusal) = Unit {0}
+
+abbrev pub PlainSecuresNothing : MmState → ℕ → List Bool → List ℕ → Type 0
+PlainSecuresNothing s now held octets = header_of octets ≡ 0 → SecuresNothing s (step_of s now held (Delivered octets))
+
 -- which timers of procedures run: T3510 of a registration, T3517 of a service request, T3521 of a deregistration
 pub record Running : Type 0 where
   pub t3510 : Bool
@@ -137,12 +149,18 @@ HaveOwner phase [] = Unit {0}
 HaveOwner phase (id ∷ []) = (id ≡ T3516) ⊎ (timer_of phase ≡ Some id)
 HaveOwner phase (first ∷ second ∷ ids) = ⊥
 
--- The timer of a procedure runs exactly while that procedure is open (TS 24.501 clause 10.2): if it was so before a step, what goes
--- out leaves it so. A step starts one timer at most: T3516, or that of the procedure that is open behind it.
+-- What a step leaves of the timers of procedures (TS 24.501 clause 10.2). The timer of a procedure runs exactly while that procedure
+-- is open: if it was so before the step, what goes out leaves it so. One timer at most is started: T3516, or that of the procedure
+-- that is open behind the step. The timer of a procedure that the step leaves is stopped, unless it is the one that expired.
+pub record HaveOwners (s : MmState) (input : UeInput) (new : Stepped) : Type 0 where
+  pub running : running_behind new.outs (running_at input (running_in s.phase)) ≡ running_in new.state.phase
+  pub starts : HaveOwner new.state.phase (started_timers new.outs)
+  pub stops :
+      (id : TimerId) → timer_of s.phase ≡ Some id → ¬ (timer_of new.state.phase ≡ Some id) → ¬ (input ≡ Expired id)
+      → Contains new.outs (Stop id)
+
 abbrev pub TimersHaveOwners : MmState → UeInput → Result Stepped StepRefusal → Type 0
-TimersHaveOwners s input (Ok new) =
-    (running_behind new.outs (running_at input (running_in s.phase)) ≡ running_in new.state.phase)
-    × HaveOwner new.state.phase (started_timers new.outs)
+TimersHaveOwners s input (Ok new) = HaveOwners s input new
 TimersHaveOwners s input (Err refusal) = Unit {0}
 
 -- the messages that are sent, in order: whether each is fresh
