@@ -11,7 +11,7 @@ use Rattle.mm_messages.specs.declared.message.Mm.{Mm}
 use Rattle.mm_messages.specs.declared.message.Mm.TheVariants.{IdentityRequest, RegistrationReject, ServiceReject}
 use Rattle.mm_messages.specs.declared.message.MmRefusal.{MmRefusal}
 use Rattle.ue_mm.specs.Delivery.{action, delivered, header_of, is_permitted_type, is_plain_allowed, new_context, plain, plain_by_table, plain_read, protected, taken}
-use Rattle.ue_mm.specs.Laws.{Does, PlainDoByKind, ReadsPlain}
+use Rattle.ue_mm.specs.Laws.{AreReadPlain, Does, PlainDoByKind}
 use Rattle.ue_mm.specs.State.{MmState}
 use Rattle.ue_mm.specs.Step.{ended, started, worked}
 use Rattle.ue_mm.specs.Work.{status}
@@ -27,15 +27,15 @@ permitted_kind (ServiceReject cause status) e = refl
 permitted_kind m e = e
 
 -- plain octets are read
-are_read : (octets : List ℕ) (w : Work) → ReadsPlain w.common → header_of octets ≡ 0 → length octets ≤ 4096
+are_read : (octets : List ℕ) (w : Work) → AreReadPlain w.common octets
     → delivered octets w ≡ plain_read (mm_in octets) octets w
 unfolding delivered plain
-are_read octets w reads header short =
+are_read octets w reads =
     when_false (not w.common.connected || nat_lt 4096 (length octets)) w
     (when header_of octets == 0 then plain octets w
     else (when header_of octets == 3 then new_context octets w else protected octets w))
-    (grind (arith, common_steps, reads.0))
-    ∙ when_true (header_of octets == 0) (plain octets w) _ (grind (arith, common_steps))
+    (grind (arith, common_steps, reads.0, reads.3))
+    ∙ when_true (header_of octets == 0) (plain octets w) _ (grind (arith, common_steps, reads.2))
     ∙ when_false w.common.secure w _ reads.1
 
 not_taken_does_nothing : (a : Action) (m : Mm) (w : Work) → ¬ (a ≡ Take) → plain_by_table a m w ≡ w
@@ -52,7 +52,7 @@ not_taken false a m w other = when_false false (plain_by_table a m w) w refl
 
 pub plain_do_by_kind : (s : MmState) (now : ℕ) (held : List Bool) (octets : List ℕ) → PlainDoByKind s now held octets
 unfolding worked ended
-plain_do_by_kind s now held octets reads header short = record {
+plain_do_by_kind s now held octets reads = record {
   permitted = λ m e allowed takes. (
     permitted_kind m allowed,
     done (by_read e
@@ -73,7 +73,7 @@ plain_do_by_kind s now held octets reads header short = record {
     w = started s now held
 
     by_read : {r : Result Mm MmRefusal} → mm_in octets ≡ r → delivered octets w ≡ plain_read r octets w
-    by_read e = are_read octets w reads header short ∙ ap (λ r. plain_read r octets w) e
+    by_read e = are_read octets w reads ∙ ap (λ r. plain_read r octets w) e
 
     done : {x : Work} → delivered octets w ≡ x → Does s now held (Delivered octets) (λ _. x)
     done e = ap (λ (x : Work). Ok (ended x)) e

@@ -11,7 +11,7 @@ use Rattle.nas_security.specs.declared.verdicts.Verdict.TheVariants as verdicts
 use Rattle.ue_mm.specs.Checks.{Opened, counted, noted, opened, opened_by, with_count}
 use Rattle.ue_mm.specs.Common.{Common}
 use Rattle.ue_mm.specs.Delivery.{command_of, delivered, frame_under_current, header_of, new_context, passed, plain, protected}
-use Rattle.ue_mm.specs.Laws.{DoesNothing, IsOpenedWherePassing, NothingPasses, PassNoCheck, ReadsPlain, UncheckedDoNothing}
+use Rattle.ue_mm.specs.Laws.{AreReadPlain, DoesNothing, IsOpenedWherePassing, NothingPasses, PassNoCheck, UncheckedDoNothing}
 use Rattle.ue_mm.specs.SecurityMode.{are_supported, command_passed, command_picked, command_repeated, command_under_current, command_under_pending, made, picked_current, picked_pending, security_mode_commanded}
 use Rattle.ue_mm.specs.State.{MmState, is_deregistering}
 use Rattle.ue_mm.specs.Step.{ended, started, step_of, worked}
@@ -120,7 +120,7 @@ unchecked_command command octets w small no_check =
     (λ _. refl)
 
 unchecked : (octets : List ℕ) (w : Work) → get_or octets 6 0 < 256 → PassNoCheck w.common octets
-    → ¬ (ReadsPlain w.common × (header_of octets ≡ 0)) → delivered octets w ≡ w
+    → ¬ (AreReadPlain w.common octets) → delivered octets w ≡ w
 unfolding delivered plain new_context protected
 unchecked octets w small no_check secure =
     when_holds (λ (x : Work). x ≡ w) (not w.common.connected || nat_lt 4096 (length octets)) w
@@ -130,7 +130,7 @@ unchecked octets w small no_check secure =
     (λ connected. when_holds (λ (x : Work). x ≡ w) (header_of octets == 0) (plain octets w)
     (when header_of octets == 3 then new_context octets w else protected octets w)
     (λ header. when_holds (λ (x : Work). x ≡ w) w.common.secure w _ (λ _. refl)
-    (λ unsecured. absurd (secure ((grind (arith, common_steps), unsecured), grind (arith, common_steps)))))
+    (λ unsecured. absurd (secure (grind (arith, common_steps), unsecured, grind (arith, common_steps), grind (arith, common_steps)))))
     (λ _. when_holds (λ (x : Work). x ≡ w) (header_of octets == 3) (new_context octets w) (protected octets w)
     (λ _. per_holds (λ (x : Work). x ≡ w) _ w _ (λ _. refl) (λ command e. unchecked_command command octets w small no_check))
     (λ _. per_holds (λ (x : Work). x ≡ w) w.common.current w _ (λ _. refl)

@@ -47,25 +47,26 @@ pub record PassNoCheck (c : Common) (octets : List ℕ) : Type 0 where
   pub current : (context : SecurityContext) → c.current ≡ Some context → NothingPasses context octets
   pub pending : (p : Pending) (algs : Algorithms) → c.pending ≡ Some p → are_supported algs ≡ true → NothingPasses (made p algs) octets
 
--- a handset reads plain octets: it is connected, and nothing was exchanged securely on the connection
-abbrev pub ReadsPlain : Common → Type 0
-ReadsPlain c = (c.connected ≡ true) × (c.secure ≡ false)
+-- Octets are read as plain ones: the handset is connected, nothing was exchanged securely on the connection, and their header type is
+-- 0 and their number at most 4,096.
+abbrev pub AreReadPlain : Common → List ℕ → Type 0
+AreReadPlain c octets = (c.connected ≡ true) × (c.secure ≡ false) × (header_of octets ≡ 0) × (length octets ≤ 4096)
 
 -- a step that changes nothing, and that nothing goes out of
 abbrev pub DoesNothing : MmState → ℕ → List Bool → UeInput → Type 0
 DoesNothing s now held input = step_of s now held input ≡ Ok (record { state = s; outs = [] })
 
--- Octets that pass no check change nothing and are answered by nothing, except plain ones where a handset reads plain octets (TS
--- 24.501 clauses 4.4.4.1 and 4.4.4.2).
+-- Octets that pass no check change nothing and are answered by nothing, except where they are read as plain ones (TS 24.501 clauses
+-- 4.4.4.1 and 4.4.4.2).
 abbrev pub UncheckedDoNothing : MmState → ℕ → List Bool → List ℕ → Type 0
 UncheckedDoNothing s now held octets =
-    PassNoCheck s.common octets → ¬ (ReadsPlain s.common × (header_of octets ≡ 0)) → DoesNothing s now held (Delivered octets)
+    PassNoCheck s.common octets → ¬ (AreReadPlain s.common octets) → DoesNothing s now held (Delivered octets)
 
 -- a step that works out so
 abbrev pub Does : MmState → ℕ → List Bool → UeInput → (Work → Work) → Type 0
 Does s now held input row = step_of s now held input ≡ Ok (ended (row (started s now held)))
 
--- What plain octets do where a handset reads them (TS 24.501 clauses 4.4.4.2, 7.4 and 7.5.1). A message does what its row says where
+-- What octets do that are read as plain ones (TS 24.501 clauses 4.4.4.2, 7.4 and 7.5.1). A message does what its row says where
 -- it is permitted, which only the kinds of the table are, and the table of collisions takes it, and any other message nothing. A
 -- type that isn't known is answered by STATUS 97, and a wrong part of a kind that is permitted by STATUS 96.
 pub record PlainDo (s : MmState) (now : ℕ) (held : List Bool) (octets : List ℕ) : Type 0 where
@@ -85,8 +86,7 @@ pub record PlainDo (s : MmState) (now : ℕ) (held : List Bool) (octets : List �
   pub ignored : (at : ℕ) → mm_in octets ≡ Err (refusals.Ignored at) → DoesNothing s now held (Delivered octets)
 
 abbrev pub PlainDoByKind : MmState → ℕ → List Bool → List ℕ → Type 0
-PlainDoByKind s now held octets =
-    ReadsPlain s.common → header_of octets ≡ 0 → length octets ≤ 4096 → PlainDo s now held octets
+PlainDoByKind s now held octets = AreReadPlain s.common octets → PlainDo s now held octets
 
 -- A step makes nothing secure: the connection is secure behind it only if it was, and the current context is the one that it was,
 -- with its counts, or there is none.
