@@ -1,1 +1,14 @@
+pub mod Branching
+pub mod DeliveryRows
+pub mod EventRows
 pub mod Fits
+pub mod FramedSummary
+pub mod MessageRows
+pub mod PlainLaws
+pub mod PlainSecurity
+pub mod RowLaws
+pub mod RowTools
+pub mod StepLaws
+pub mod StopLaws
+pub mod Summary
+pub mod UncheckedLaws
