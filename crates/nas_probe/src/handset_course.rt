@@ -1,12 +1,17 @@
 //! A handset on its way through inputs.
+ghost use Rattle.std.specs.Prelude.{◌≤◌, ◌^◌};
 
 use crate::handset_inputs::Given;
 use crate::handset_texts::{outs_text, refusal_text, view_text};
 use crate::words::Refusal;
 use nas_base::Moment;
 use nas_elements::Status;
+use nas_security::Context;
 use std::alloc::Global;
-use ue_mm::{HandsetConfig, StepRefusal, UeInput, UeMm, step};
+use ue_mm::{Common, HandsetConfig, StepRefusal, UeInput, UeMm, step};
+
+// How many counts there are.
+const COUNTS: u32 = 0x0100_0000;
 
 /// A handset, the moment and the sessions that it is given, and what it answered so far.
 #[derive(Drop)]
@@ -33,6 +38,13 @@ impl Course {
         match given {
             Given::Now(now) => Ok(Course { now, ..self }),
             Given::Held(held) => Ok(Course { held, ..self }),
+            Given::Counts { up, down } => {
+                if up > COUNTS || down > COUNTS {
+                    return Err(Refusal::Unreadable);
+                }
+                let handset = with_counts(self.handset, up, down);
+                Ok(Course { handset, ..self })
+            }
             Given::Input(input) => self.step(alloc, input),
         }
     }
@@ -51,10 +63,11 @@ impl Course {
             Err((handset, refusal)) => (handset, refusal_text(alloc, refusal)?),
         };
         let view = view_text(alloc, &handset.view())?;
-        let blank = if told.is_empty() { "" } else { " " };
-        for text in [blank, outs.as_str(), view.as_str()] {
-            told.push_str(text).map_err(|_| Refusal::Memory)?;
+        if !told.is_empty() {
+            push(&mut told, " ")?;
         }
+        push(&mut told, outs.as_str())?;
+        push(&mut told, view.as_str())?;
         Ok(Course {
             handset,
             now,
@@ -62,4 +75,35 @@ impl Course {
             told,
         })
     }
+}
+
+fn push(line: &mut String, text: &str) -> Result<(), Refusal> {
+    line.push_str(text).map_err(|_| Refusal::Memory)
+}
+
+// The handset with these next counts of the context in use, if there is one.
+fn with_counts(handset: UeMm, up: u32, down: u32) -> UeMm
+    requires { (up ≤ 2 ^ 24) × (down ≤ 2 ^ 24) }
+{
+    match handset {
+        UeMm::Deregistered(common) => UeMm::Deregistered(counted(common, up, down)),
+        UeMm::Registering(common, open) => UeMm::Registering(counted(common, up, down), open),
+        UeMm::Registered(common) => UeMm::Registered(counted(common, up, down)),
+        UeMm::Serving(common, open) => UeMm::Serving(counted(common, up, down), open),
+        UeMm::Deregistering(common, open) => UeMm::Deregistering(counted(common, up, down), open),
+    }
+}
+
+fn counted(common: Common, up: u32, down: u32) -> Common
+    requires { (up ≤ 2 ^ 24) × (down ≤ 2 ^ 24) }
+{
+    let current = match common.current {
+        Some(context) => Some(Context {
+            up,
+            down,
+            ..context
+        }),
+        None => None,
+    };
+    Common { current, ..common }
 }

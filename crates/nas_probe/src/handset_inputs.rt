@@ -17,6 +17,8 @@ pub enum Given {
     Now(Moment),
     /// The sessions that are held from here on.
     Held(Status),
+    /// The next counts of the context in use, up and down.
+    Counts { up: u32, down: u32 },
     Input(UeInput),
 }
 
@@ -28,6 +30,7 @@ pub fn read_given(alloc: Global, word: &str) -> Result<Given, Refusal> {
     let input = match name {
         "at" => return Ok(Given::Now(moment(value)?)),
         "held" => return Ok(Given::Held(status(alloc, value)?)),
+        "counts" => return counts(value),
         "octets" => UeInput::Delivered(message(alloc, value)?),
         "expired" => UeInput::Expired(timer(value)?),
         "carry" => carry(alloc, value)?,
@@ -57,6 +60,16 @@ fn moment(word: &str) -> Result<Moment, Refusal> {
         Ok(ms) if ms <= LAST_MOMENT => Ok(Moment(ms)),
         _ => Err(Refusal::Unreadable),
     }
+}
+
+fn counts(words: &str) -> Result<Given, Refusal> {
+    let Some((up, down)) = words.split_once(":") else {
+        return Err(Refusal::Unreadable);
+    };
+    Ok(Given::Counts {
+        up: quantity(up)?,
+        down: quantity(down)?,
+    })
 }
 
 fn status(alloc: Global, word: &str) -> Result<Status, Refusal> {

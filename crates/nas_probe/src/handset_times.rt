@@ -1,6 +1,6 @@
 //! A handset's steps, done often, for a clock outside.
 
-ghost use Rattle.std.specs.Prelude.{◌≤◌, ◌×◌};
+ghost use Rattle.std.specs.Prelude.{◌≤◌};
 
 use crate::frame_calls::sum_of;
 use crate::handset_calls::{K, OPC, config};
