@@ -7,7 +7,7 @@ import random
 import subprocess
 import sys
 
-from handset_inputs import COUNTS, Network
+from handset_inputs import CAPABILITIES, COUNTS, Network
 from probe import text
 
 OWNERS = {"T3510": "Registering", "T3517": "Serving", "T3521": "Deregistering"}
@@ -63,6 +63,8 @@ class Walk:
         self.network = Network(rng, crypto, codec, self.handset)
         self.held = frozenset()  # as it was given last
         self.words, self.steps = [f"{sqn:012x}"], []
+        if self.chance(0.2):
+            self.be_capable(rng.choice(CAPABILITIES))
 
     def chance(self, p):
         return self.rng.random() < p
@@ -173,6 +175,10 @@ class Walk:
         words = [f"carry:{psi}", text(frame)] + ([text(dnn)] if dnn else [])
         self.step(":".join(words), lambda: self.handset._carry(psi, dnn, frame))
 
+    def be_capable(self, capability):
+        self.handset.cfg = self.handset.cfg._replace(capability=bytes.fromhex(capability))
+        self.words.append(f"capability:{capability}")
+
     def hold(self):
         self.handset.hold(frozenset(psi for psi in range(1, 16) if self.chance(0.3)))
 
@@ -194,6 +200,8 @@ class Walk:
         handset, drawn = self.handset, self.rng.random()
         if handset.word in ("Deregistered", "Registered") and (not handset.connected or self.chance(0.15)) and self.chance(0.75):
             return self.command(self.sensible_command())
+        if handset.word == "Deregistering" and self.chance(0.4):
+            return self.pass_time()
         if drawn < 0.76:
             return self.deliver()
         if drawn < 0.80:

@@ -1,12 +1,15 @@
 """Octets for a handset that handset.py sends: messages of a network, in frames or plain, as they are or changed."""
 from elements import mutated
 
-KNOWN, TOO_LONG, LONGEST_FRAME, LONGEST_MESSAGE = 4096, 4097, 4096, 4089
+LONGEST = 4096  # octets of a message, and of a frame
+LONGEST_MESSAGE = LONGEST - 7  # of one in a frame
+MOST = 4100  # octets that nas_probe takes
 COUNTS = 1 << 24
 GUTIS = ["f200f11002004000000001", "f200f1100200400000abcd", "f221436520ff123456789a"]
 NO_GUTIS = ["f4004000000001", "0100f110f0ff00000000000010", "f200f110020040000000", ""]
 SESSIONS = ["50022000", "5002feff", "50020000", "50032000ff", "500120", "50020100"]
 EXTRAS = ["", "", "", "a1", "220101", "7b000100", "3f02aabb", "50", "36", "01ff", "5e0106", "540101"]
+CAPABILITIES = ["a020", "8020", "2020", "a000", "a0200000", "ffff", "f0f0f0f0f0f0f0f0"]
 CAUSES = [3, 7, 9, 10, 11, 22, 71, 72, 73, 75, 85, 86, 87, 97, 111, 0, 255]
 
 # Message types and what follows: messages that a handset answers or takes, those that end something, those that a network doesn't send
@@ -67,7 +70,7 @@ class Network:
     def command(self, ksi):
         rng = self.rng
         algs = rng.choice([0x02, 0x22]) if self.chance(0.85) else rng.choice([0x12, 0x20, 0x21, 0x00, 0x11, 0x32, 0x82])
-        capability = b"\xa0\x20" if self.chance(0.85) else rng.choice([b"\xa0\x30", b"\x80\x20", b"\xa0\x20\x00\x00", b"\xff\xff", b"\xa0", b""])
+        capability = self.handset.cfg.capability if self.chance(0.85) else bytes.fromhex(rng.choice(CAPABILITIES + ["a030", "a0", ""]))
         asked = rng.choice(["360102", "360102", "360102", "360100", "360103", "36020202", "3600", "", "57aa360102"])
         head = bytes([0x7E, 0, 0x5D, algs, rng.choice([0, 0, 0, 0x30]) | ksi, len(capability)])
         return head + capability + bytes.fromhex(asked + rng.choice(EXTRAS))
@@ -103,10 +106,9 @@ class Network:
 
     # frames
 
-    def frame(self, context, header, message, next_count=None):
+    def frame(self, context, header, message):
         """The message in a frame under the context, mostly at the next count."""
-        rng = self.rng
-        count = context.down if next_count is None else next_count
+        rng, count = self.rng, context.down
         if self.chance(0.12):
             count += rng.choice([1, 2, 5, 254, 255, 256, 300, -1, -1, -1, -256])
         copy = context.copy()
@@ -154,7 +156,7 @@ class Network:
             return rng.randbytes(rng.randint(0, 40))
         if kind == 2:
             message = rng.choice([bytes([0x7E, 0, 0x5B, 1]), bytes([0x7E, 0, 0x7F]), self.challenge()])
-            return message + bytes([0xA0]) * (rng.choice([KNOWN, TOO_LONG, 4100]) - len(message))
+            return message + bytes([0xA0]) * (rng.choice([LONGEST, LONGEST + 1, MOST]) - len(message))
         if kind == 3 and self.handset.current:
             message = bytes([0x7E, 0, 0x5B, 1])
             message += bytes([0xA0]) * (rng.choice([LONGEST_MESSAGE - 1, LONGEST_MESSAGE]) - len(message))
@@ -164,7 +166,7 @@ class Network:
             return rng.choice(self.frames[-3:])
         if kind == 5 and self.frames:
             return mutated(rng, rng.choice(self.frames[-3:]))
-        return mutated(rng, self.any_message())[:4100]
+        return mutated(rng, self.any_message())[:MOST]
 
     def next_in_line(self):
         """What a network sends next in a procedure that goes well, or nothing."""
@@ -207,5 +209,5 @@ class Network:
             return self.command_frame()
         if drawn < 0.85:
             made = self.under_current(message) if self.handset.current else message
-            return mutated(self.rng, made)[:4100]
+            return mutated(self.rng, made)[:MOST]
         return self.odd()

@@ -9,6 +9,7 @@
 //!
 //!     at:MS                   the moment from here on, at most 10^15; 0 at the beginning
 //!     held:OCTETS             the PDU sessions that are held from here on, a session status; none at the beginning
+//!     capability:OCTETS       what security the handset is capable of, from here on
 //!     counts:UP:DOWN          the next counts of the context in use are these, at most 2^24
 //!     register, mobility, periodic, service, deregister, switch-off
 //!     octets:OCTETS           at most 4,100 octets reach the handset
@@ -17,7 +18,7 @@
 //!     carry:PSI:OCTETS        a message of a session, perhaps with its data network
 //!     carry:PSI:OCTETS:DNN
 //!
-//! The answer has a step for each INPUT but `at`, `held` and `counts`, with a blank between. A step is what went out, in order, and then
+//! The answer has a step for each INPUT but the first four, with a blank between. A step is what went out, in order, and then
 //! what can be seen, with commas between. What goes out is one of these, where a PASS is SUPI.SQN.RAND.COUNT:
 //!
 //!     fresh:OCTETS:PASS       a message is sent, the first of its connection; `plain` in place of the PASS of a plain one

@@ -5,7 +5,7 @@ use crate::handset_inputs::Given;
 use crate::handset_texts::{outs_text, refusal_text, view_text};
 use crate::words::Refusal;
 use nas_base::Moment;
-use nas_elements::Status;
+use nas_elements::{Capability, Status};
 use nas_security::Context;
 use std::alloc::Global;
 use ue_mm::{Common, HandsetConfig, StepRefusal, UeInput, UeMm, step};
@@ -38,6 +38,10 @@ impl Course {
         match given {
             Given::Now(now) => Ok(Course { now, ..self }),
             Given::Held(held) => Ok(Course { held, ..self }),
+            Given::Capability(capability) => {
+                let handset = with_capability(self.handset, capability);
+                Ok(Course { handset, ..self })
+            }
             Given::Counts { up, down } => {
                 if up > COUNTS || down > COUNTS {
                     return Err(Refusal::Unreadable);
@@ -106,4 +110,23 @@ fn counted(common: Common, up: u32, down: u32) -> Common
         None => None,
     };
     Common { current, ..common }
+}
+
+// The handset with this capability.
+fn with_capability(handset: UeMm, capability: Capability) -> UeMm {
+    match handset {
+        UeMm::Deregistered(common) => UeMm::Deregistered(capable(common, capability)),
+        UeMm::Registering(common, open) => UeMm::Registering(capable(common, capability), open),
+        UeMm::Registered(common) => UeMm::Registered(capable(common, capability)),
+        UeMm::Serving(common, open) => UeMm::Serving(capable(common, capability), open),
+        UeMm::Deregistering(common, open) => UeMm::Deregistering(capable(common, capability), open),
+    }
+}
+
+fn capable(common: Common, capability: Capability) -> Common {
+    let config = HandsetConfig {
+        capability,
+        ..common.config
+    };
+    Common { config, ..common }
 }

@@ -2,7 +2,7 @@
 
 use crate::words::{Refusal, kept, octets, quantity};
 use nas_base::{Kind, Moment, Octets, Psi};
-use nas_elements::{Dnn, Status};
+use nas_elements::{Capability, Dnn, Status};
 use nas_timers::TimerId;
 use std::alloc::Global;
 use ue_mm::{MmCommand, UeInput};
@@ -17,6 +17,8 @@ pub enum Given {
     Now(Moment),
     /// The sessions that are held from here on.
     Held(Status),
+    /// What security the handset is capable of, from here on.
+    Capability(Capability),
     /// The next counts of the context in use, up and down.
     Counts { up: u32, down: u32 },
     Input(UeInput),
@@ -30,6 +32,7 @@ pub fn read_given(alloc: Global, word: &str) -> Result<Given, Refusal> {
     let input = match name {
         "at" => return Ok(Given::Now(moment(value)?)),
         "held" => return Ok(Given::Held(status(alloc, value)?)),
+        "capability" => return Ok(Given::Capability(capability(alloc, value)?)),
         "counts" => return counts(value),
         "octets" => UeInput::Delivered(message(alloc, value)?),
         "expired" => UeInput::Expired(timer(value)?),
@@ -60,6 +63,10 @@ fn moment(word: &str) -> Result<Moment, Refusal> {
         Ok(ms) if ms <= LAST_MOMENT => Ok(Moment(ms)),
         _ => Err(Refusal::Unreadable),
     }
+}
+
+fn capability(alloc: Global, word: &str) -> Result<Capability, Refusal> {
+    Capability::read(&octets(alloc, word)?).map_err(|_| Refusal::Unreadable)
 }
 
 fn counts(words: &str) -> Result<Given, Refusal> {
