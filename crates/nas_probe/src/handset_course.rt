@@ -123,10 +123,7 @@ fn with_capability(handset: UeMm, capability: Capability) -> UeMm {
     }
 }
 
-fn capable(common: Common, capability: Capability) -> Common {
-    let config = HandsetConfig {
-        capability,
-        ..common.config
-    };
-    Common { config, ..common }
+fn capable(mut common: Common, capability: Capability) -> Common {
+    common.config.capability = capability;
+    common
 }
