@@ -111,7 +111,7 @@ class Walk:
 
     def step(self, word, act):
         handset = self.handset
-        before, held = handset.current, handset.held()
+        before, held, connected = handset.current, handset.held(), handset.connected
         if held != self.held:
             self.held = held
             self.words.append(f"held:{text(self.codec.StatusC.write(held))}")
@@ -124,7 +124,10 @@ class Walk:
         if before is not None and before is not handset.current:
             self.network.contexts.append(before)
         self.words.append(word)
-        self.steps.append((word, held, self.seen()))
+        wanted = self.seen()
+        if not connected:
+            del wanted["abandoned"]  # without a connection the sessions have nothing under way
+        self.steps.append((word, held, wanted))
 
     def command(self, word):
         self.step(word, lambda: self.handset.command(COMMANDS[word]))

@@ -166,7 +166,7 @@ class Network:
             return rng.choice(self.frames[-3:])
         if kind == 5 and self.frames:
             return mutated(rng, rng.choice(self.frames[-3:]))
-        return mutated(rng, self.any_message())[:MOST]
+        return mutated(rng, self.any_message())
 
     def next_in_line(self):
         """What a network sends next in a procedure that goes well, or nothing."""
@@ -193,12 +193,11 @@ class Network:
 
     def string(self):
         """What reaches the handset next."""
-        if self.chance(0.6):
-            made = self.next_in_line()
-            if made is not None:
-                return made
-        drawn = self.rng.random()
-        message = self.any_message()
+        made = self.next_in_line() if self.chance(0.6) else None
+        return (self.any_string() if made is None else made)[:MOST]
+
+    def any_string(self):
+        drawn, message = self.rng.random(), self.any_message()
         if drawn < 0.3 and self.handset.current:
             return self.under_current(message)
         if drawn < 0.55:
@@ -208,6 +207,5 @@ class Network:
         if drawn < 0.75:
             return self.command_frame()
         if drawn < 0.85:
-            made = self.under_current(message) if self.handset.current else message
-            return mutated(self.rng, made)[:MOST]
+            return mutated(self.rng, self.under_current(message) if self.handset.current else message)
         return self.odd()
