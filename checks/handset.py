@@ -1,5 +1,12 @@
 """Compares a handset's 5GMM, as nas_probe's call `handset` drives it, with an executable model. See handset.sh.
 
+Each step compares what is sent, octet for octet, with its freshness and its pass, the message that passed and the context that was taken,
+what the sessions are told, by what becomes of them, the running timers with their deadlines, the refusal, and all that can be seen. The order
+of what goes out is compared among the messages that are sent, and among those for the sessions, and not between one and another kind.
+
+The model has sessions, so its calls for them are replaced by ones that note what they are told, and a message of a session is carried by
+the call that its sessions make. Its timers expire one by one.
+
 usage: handset.py MODEL PROBE [WALKS [SEED]]
 """
 import os
@@ -295,7 +302,7 @@ def drawn_walk(rng, modules, config):
 
 def main():
     model_path, probe = sys.argv[1:3]
-    count = int(sys.argv[3]) if len(sys.argv) > 3 else 300
+    count = int(sys.argv[3]) if len(sys.argv) > 3 else 600
     seed = int(sys.argv[4]) if len(sys.argv) > 4 else 1
     sys.path.insert(0, os.path.dirname(os.path.abspath(model_path)))
     import nas_codec

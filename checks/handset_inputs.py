@@ -180,6 +180,10 @@ class Network:
             return self.challenge()
         if not handset.secure:
             return None
+        if handset.stored and self.chance(0.3):
+            return self.under_current(self.challenges[-1])
+        if word == "Registering" and self.chance(0.25):
+            return self.under_current(self.challenge())
         if word == "Registering":
             return self.under_current(self.accept())
         if word == "Serving":
