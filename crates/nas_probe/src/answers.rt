@@ -2,7 +2,8 @@
 
 use crate::words::Refusal;
 use crate::{
-    aes_calls, element_calls, frame_calls, key_calls, message_calls, milenage_calls, qos_calls,
+    aes_calls, element_calls, frame_calls, handset_calls, key_calls, message_calls, milenage_calls,
+    qos_calls,
 };
 use std::alloc::{AllocError, Global};
 
@@ -45,6 +46,10 @@ fn called(alloc: Global, line: &[u8]) -> Result<String, Refusal> {
         answer => return answer,
     }
     match frame_calls::answer(alloc, words) {
+        Err(Refusal::Unreadable) => (),
+        answer => return answer,
+    }
+    match handset_calls::answer(alloc, words) {
         Err(Refusal::Unreadable) => (),
         answer => return answer,
     }

@@ -164,8 +164,8 @@ fn unprotect_often(length: u32, times: u32) -> Result<u64, Refusal> {
     Ok(sum)
 }
 
-// The first and the last octet, so that nothing is left out.
-fn sum_of(octets: &[u8]) -> u64 {
+/// The first and the last octet, so that nothing is left out.
+pub fn sum_of(octets: &[u8]) -> u64 {
     match octets {
         [first, .., last] => *first as u64 + *last as u64,
         _ => 0,

@@ -3,7 +3,7 @@ ghost use Rattle.std.specs.Prelude.{◌≤◌, ◌<◌, ◌^◌, length, IfOk};
 
 use arrayvec::ArrayVec;
 use hex::FromHexError;
-use nas_base::{Count, Dir, Plmn, Supi};
+use nas_base::{Count, Dir, Octets, OctetsRefusal, Plmn, Supi};
 use std::alloc::Global;
 
 /// Why a line has no answer of its own.
@@ -35,6 +35,15 @@ pub fn octets(alloc: Global, word: &str) -> Result<Vec<u8>, Refusal> {
         Ok(octets) => Ok(octets),
         Err(FromHexError::OutOfMemory) => Err(Refusal::Memory),
         Err(_) => Err(Refusal::Unreadable),
+    }
+}
+
+/// Octets as a message of at most 4,100.
+pub fn kept(alloc: Global, octets: &[u8]) -> Result<Octets, Refusal> {
+    match Octets::copy(alloc, octets) {
+        Ok(octets) => Ok(octets),
+        Err(OctetsRefusal::TooMany { size: _ }) => Err(Refusal::Unreadable),
+        Err(OctetsRefusal::Memory) => Err(Refusal::Memory),
     }
 }
 

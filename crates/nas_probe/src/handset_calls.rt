@@ -1,0 +1,102 @@
+//! The calls of ue_mm, at a handset of the SUPI 001010000000001 whose card has the keys of TS 35.208 test set 1, with the
+//! capability a020 and the standard durations:
+//!
+//!     handset SQN INPUT INPUT ..
+//!     time_registration TIMES
+//!     time_discarded TIMES
+//!
+//! SQN is SQN_MS in hex, 6 octets. An INPUT is one of these:
+//!
+//!     at:MS                   the moment from here on, at most 10^15; 0 at the beginning
+//!     held:OCTETS             the PDU sessions that are held from here on, a session status; none at the beginning
+//!     capability:OCTETS       what security the handset is capable of, from here on
+//!     counts:UP:DOWN          the next counts of the context in use are these, at most 2^24
+//!     register, mobility, periodic, service, deregister, switch-off
+//!     octets:OCTETS           at most 4,100 octets reach the handset
+//!     expired:TIMER           T3510, T3516, T3517, T3521, T3522, T3550 or T3560
+//!     drop, restart
+//!     carry:PSI:OCTETS        a message of a session, perhaps with its data network
+//!     carry:PSI:OCTETS:DNN
+//!
+//! The answer has a step for each INPUT but the first four, with a blank between. A step is what went out, in order, and then
+//! what can be seen, with commas between. What goes out is one of these, where a PASS is SUPI.SQN.RAND.COUNT:
+//!
+//!     fresh:OCTETS:PASS       a message is sent, the first of its connection; `plain` in place of the PASS of a plain one
+//!     sent:OCTETS:PASS        the same of any other message
+//!     passed:PASS
+//!     took:CONTEXT            NGKSI.SQN.RAND.KAMF.NEA.NIA.KNASENC.KNASINT.UP.DOWN
+//!     to_session:OCTETS, not_forwarded:OCTETS, abandon, clear, keep:OCTETS
+//!     start:TIMER:MS, stop:TIMER
+//!     refused:wrong_state:STATE, refused:spent:NEXT
+//!
+//! What can be seen is STATE:CONNECTED:SECURE:REGISTERED:GUTI:CONTEXT:PENDING:SQN, with `true` or `false` for the second to the
+//! fourth, SQN.RAND for a pending challenge, and `none` for what isn't there. Each SQN is in hex, and all other numbers are decimal.
+//!
+//! `time_registration` registers a handset anew TIMES times, by a challenge, a command and an accept; `time_discarded` delivers a
+//! frame TIMES times whose MAC is wrong. Both answer a sum of what came out, for a clock outside.
+
+use crate::handset_course::Course;
+use crate::words::{Refusal, exactly, quantity};
+use crate::{handset_inputs, handset_times};
+use nas_base::{Plmn, Supi};
+use nas_elements::Capability;
+use nas_timers::Durations;
+use std::alloc::Global;
+use ue_mm::HandsetConfig;
+
+/// K and OPc of TS 35.208 test set 1.
+pub const K: [u8; 16] = [
+    0x46, 0x5b, 0x5c, 0xe8, 0xb1, 0x99, 0xb4, 0x9f, 0xaa, 0x5f, 0x0a, 0x2e, 0xe2, 0x38, 0xa6, 0xbc,
+];
+
+pub const OPC: [u8; 16] = [
+    0xcd, 0x63, 0xcb, 0x71, 0x95, 0x4a, 0x9f, 0x4e, 0x48, 0xa5, 0x99, 0x4e, 0x37, 0xa0, 0x2b, 0xaf,
+];
+
+/// The answer to a call.
+pub fn answer(alloc: Global, words: &[&str]) -> Result<String, Refusal> {
+    match words {
+        ["handset", sqn, inputs @ ..] => walk(alloc, sqn, inputs),
+        ["time_registration", times] => {
+            let sum = handset_times::registrations(alloc, quantity(times)?)?;
+            format!(in alloc; "{sum}").map_err(|_| Refusal::Memory)
+        }
+        ["time_discarded", times] => {
+            let sum = handset_times::discarded(alloc, quantity(times)?)?;
+            format!(in alloc; "{sum}").map_err(|_| Refusal::Memory)
+        }
+        _ => Err(Refusal::Unreadable),
+    }
+}
+
+// A handset with this SQN_MS, and what becomes of the inputs.
+fn walk(alloc: Global, sqn: &str, inputs: &[&str]) -> Result<String, Refusal> {
+    let [a, b, c, d, e, f] = exactly::<6>(sqn)?;
+    let config = config(u64::from_be_bytes([0, 0, a, b, c, d, e, f]))?;
+    let mut course = Course::new(alloc, &config);
+    for word in inputs {
+        course = course.go(alloc, handset_inputs::read_given(alloc, word)?)?;
+    }
+    Ok(course.told)
+}
+
+/// The handset of the calls, with this SQN_MS. It is unreadable where SQN_MS isn't below 2^48.
+pub fn config(sqn: u64) -> Result<HandsetConfig, Refusal> {
+    let plmn = Plmn::from_digits(&[0, 0, 1, 0, 1]).ok_or(Refusal::Unreadable)?;
+    let supi = Supi::from_slice(&[0, 0, 1, 0, 1, 0, 0, 0, 0, 0, 0, 0, 0, 0, 1]).ok_or(
+        Refusal::Unreadable,
+    )?;
+    let capability = Capability::from_slice(&[0xa0, 0x20]).ok_or(Refusal::Unreadable)?;
+    if sqn >= 1 << 48 || !supi.is_of(&plmn) {
+        return Err(Refusal::Unreadable);
+    }
+    Ok(HandsetConfig {
+        supi,
+        plmn,
+        k: K,
+        opc: OPC,
+        sqn,
+        capability,
+        durations: Durations::standard(),
+    })
+}
