@@ -1,1 +1,12 @@
+pub mod Branching
+pub mod DeliveryRows
+pub mod EventRows
 pub mod Fits
+pub mod FramedSummary
+pub mod MessageRows
+pub mod PlainLaws
+pub mod RowLaws
+pub mod RowTools
+pub mod StepLaws
+pub mod Summary
+pub mod UncheckedLaws

@@ -9,6 +9,7 @@ pub mod Deregistration
 pub mod Events
 pub mod Framing
 pub mod Identification
+pub mod Laws
 pub mod Outcome
 pub mod Registration
 pub mod SecurityMode

@@ -15,6 +15,7 @@ mod events;
 mod framing;
 mod identification;
 mod inputs;
+mod laws;
 mod outs;
 mod procedures;
 mod registration;
@@ -32,6 +33,10 @@ pub use crate::authentication::Request;
 pub use crate::common::{Common, Pending, Stored};
 pub use crate::config::HandsetConfig;
 pub use crate::inputs::{MmCommand, StepRefusal, UeInput};
+pub use crate::laws::{
+    one_message_at_most, opened_where_passing, plain_octets_by_kind, timers_have_owners,
+    unchecked_octets_change_nothing,
+};
 pub use crate::outs::{UeOut, UeOuts};
 pub use crate::procedures::{Deregistration, Phase, Registration, Service};
 pub use crate::state::UeMm;

@@ -1,0 +1,149 @@
+-- What goes out is what was said, but for messages that aren't sent.
+use Rattle.std.proofs.Common.{◌≡◌, refl, sym, ap, subst, ◌∙◌, ◌==◌, ◌^◌, ◌||◌, Bool, true, false, ℕ, List, [], ◌∷◌, ◌++◌, Some, None}
+use Rattle.nas_base.specs.Branches.{per, when◌then◌else◌}
+use Rattle.nas_base.specs.declared.count.Dir.TheVariants.{Up}
+use Rattle.nas_security.specs.Contexts.{SecurityContext}
+use Rattle.nas_timers.specs.declared.timer_id.TimerId.{TimerId}
+use Rattle.mm_messages.specs.Messages.{spelling}
+use Rattle.ue_mm.specs.Framing.{framed, framed_all, framed_plain, framed_protected, framed_under, is_too_long}
+use Rattle.ue_mm.specs.Laws.{HaveOwner, Running, with_timer}
+use Rattle.ue_mm.specs.declared.acts.Act.{Act}
+use Rattle.ue_mm.specs.declared.acts.Act.TheVariants.{Say, Tell}
+use Rattle.ue_mm.specs.declared.acts.Protection.TheVariants.{Plain, IntegrityProtected, Ciphered, CipheredWithNewContext}
+use Rattle.ue_mm.specs.declared.framing.Framed.{Framed}
+use Rattle.ue_mm.specs.declared.outs.UeOut.{UeOut}
+use Rattle.ue_mm.specs.declared.outs.UeOut.TheVariants.{Send, Passed, Took, ToSession, NotForwarded, Abandon, Clear, Keep, Start, Stop}
+use Rattle.ue_mm.specs.declared.procedures.Phase.{Phase}
+use Rattle.ue_mm.proofs.Branching.{per_holds, when_holds}
+use Rattle.ue_mm.proofs.Summary.{IsOneAtMost, IsSound, Sent, Summary, one_more, outs_onto, summed, summed_act, summed_out, summed_outs}
+use Rattle.ue_mm.proofs.Summary.Sent.{none, one, more}
+
+-- no more messages, and one of one is the same
+abbrev IsWithin : Sent → Sent → Type 0
+IsWithin none other = Unit {0}
+IsWithin (one fresh) none = ⊥
+IsWithin (one fresh) (one other) = fresh ≡ other
+IsWithin (one fresh) more = Unit {0}
+IsWithin more none = ⊥
+IsWithin more (one other) = ⊥
+IsWithin more more = Unit {0}
+
+is_within : (s : Sent) → IsWithin s s
+is_within none = tt
+is_within (one fresh) = refl
+is_within more = tt
+
+both_more : (fresh : Bool) (s other : Sent) → IsWithin s other → IsWithin (one_more fresh s) (one_more fresh other)
+both_more fresh none none h = refl
+both_more fresh none (one x) h = tt
+both_more fresh none more h = tt
+both_more fresh (one y) none h = absurd h
+both_more fresh (one y) (one x) h = tt
+both_more fresh (one y) more h = tt
+both_more fresh more none h = absurd h
+both_more fresh more (one x) h = absurd h
+both_more fresh more more h = tt
+
+other_more : (fresh : Bool) (s other : Sent) → IsWithin s other → IsWithin s (one_more fresh other)
+other_more fresh none other h = tt
+other_more fresh (one y) none h = absurd h
+other_more fresh (one y) (one x) h = tt
+other_more fresh (one y) more h = tt
+other_more fresh more none h = absurd h
+other_more fresh more (one x) h = absurd h
+other_more fresh more more h = tt
+
+few_within : (connected : Bool) (s other : Sent) → IsWithin s other → IsOneAtMost connected other → IsOneAtMost connected s
+few_within connected none other h few = tt
+few_within connected (one y) none h few = absurd h
+few_within connected (one y) (one x) h few = λ e. few (sym h ∙ e)
+few_within connected (one y) more h few = absurd few
+few_within connected more none h few = absurd h
+few_within connected more (one x) h few = absurd h
+few_within connected more more h few = few
+
+record IsSmaller (s other : Summary) : Type 0 where
+  running : s.running ≡ other.running
+  started : s.started ≡ other.started
+  sent : IsWithin s.sent other.sent
+
+-- what is told goes out
+told : (out : UeOut) (s other : Summary) → IsSmaller s other → IsSmaller (summed_out out s) (summed_out out other)
+told (Send fresh octets pass) s other h = record { running = h.running; started = h.started; sent = both_more fresh s.sent other.sent h.sent }
+told (Start id at) s other h = record {
+  running = ap (λ (r : Running). with_timer id true r) h.running;
+  started = ap (λ (ids : List TimerId). ids ++ id ∷ []) h.started;
+  sent = h.sent;
+}
+told (Stop id) s other h = record { running = ap (λ (r : Running). with_timer id false r) h.running; started = h.started; sent = h.sent }
+told (Passed pass) s other h = h
+told (Took context) s other h = h
+told (ToSession octets) s other h = h
+told (NotForwarded octets) s other h = h
+told Abandon s other h = h
+told Clear s other h = h
+told (Keep held) s other h = h
+
+-- so far this went out, where that was said
+record GoesOut (s other : Summary) (f : Framed) : Type 0 where
+  smaller : IsSmaller (summed_outs f.outs s) other
+
+out_goes_out : (out : UeOut) (s other : Summary) (f : Framed) → GoesOut s other f
+    → GoesOut s (summed_out out other) (record f { outs = f.outs ++ out ∷ [] })
+out_goes_out out s other f h = record {
+  smaller = subst (λ (x : Summary). IsSmaller x (summed_out out other)) (sym (outs_onto f.outs out s)) (told out (summed_outs f.outs s) other h.smaller);
+}
+
+-- a message that isn't sent
+unsent : (fresh : Bool) (s other : Summary) (f : Framed) → GoesOut s other f → GoesOut s (record other { sent = one_more fresh other.sent }) f
+unsent fresh s other f h = record {
+  smaller = record {
+    running = h.smaller.running;
+    started = h.smaller.started;
+    sent = other_more fresh (summed_outs f.outs s).sent other.sent h.smaller.sent;
+  };
+}
+
+plain_goes_out : (fresh : Bool) (message : List ℕ) (s other : Summary) (f : Framed) → GoesOut s other f
+    → GoesOut s (record other { sent = one_more fresh other.sent }) (framed_plain fresh message f)
+plain_goes_out fresh message s other f h =
+    when_holds (λ (g : Framed). GoesOut s (record other { sent = one_more fresh other.sent }) g) (is_too_long message) f _
+    (λ _. unsent fresh s other f h) (λ _. out_goes_out (Send fresh message None) s other f h)
+
+protected_goes_out : (supi : List ℕ) (header : ℕ) (fresh : Bool) (message : List ℕ) (s other : Summary) (f : Framed) → GoesOut s other f
+    → GoesOut s (record other { sent = one_more fresh other.sent }) (framed_protected supi header fresh message f)
+protected_goes_out supi header fresh message s other f h =
+    per_holds (λ (g : Framed). GoesOut s (record other { sent = one_more fresh other.sent }) g) f.current f _
+    (λ _. unsent fresh s other f h)
+    (λ context _. when_holds (λ (g : Framed). GoesOut s (record other { sent = one_more fresh other.sent }) g)
+    (is_too_long message || context.up == 2 ^ 24) f _
+    (λ _. unsent fresh s other f h)
+    (λ _. record { smaller = (out_goes_out (Send fresh _ _) s other f h).smaller }))
+
+act_goes_out : (supi : List ℕ) (act : Act) (s other : Summary) (f : Framed) → GoesOut s other f
+    → GoesOut s (summed_act act other) (framed supi act f)
+unfolding framed
+act_goes_out supi (Tell out) s other f h = out_goes_out out s other f h
+act_goes_out supi (Say fresh Plain message) s other f h = plain_goes_out fresh (spelling message) s other f h
+act_goes_out supi (Say fresh IntegrityProtected message) s other f h = protected_goes_out supi 1 fresh (spelling message) s other f h
+act_goes_out supi (Say fresh Ciphered message) s other f h = protected_goes_out supi 2 fresh (spelling message) s other f h
+act_goes_out supi (Say fresh CipheredWithNewContext message) s other f h = protected_goes_out supi 4 fresh (spelling message) s other f h
+
+all_go_out : (supi : List ℕ) (acts : List Act) (s other : Summary) (f : Framed) → GoesOut s other f
+    → GoesOut s (summed acts other) (framed_all supi acts f)
+all_go_out supi [] s other f h = h
+all_go_out supi (act ∷ acts) s other f h =
+    all_go_out supi acts s (summed_act act other) (framed supi act f) (act_goes_out supi act s other f h)
+
+-- what goes out is sound where what was said is
+pub framed_is_sound : (supi : List ℕ) (acts : List Act) (s : Summary) (f : Framed) (connected : Bool) (phase : Phase) → f.outs ≡ []
+    → IsSound connected phase (summed acts s) → IsSound connected phase (summed_outs (framed_all supi acts f).outs s)
+framed_is_sound supi acts s f connected phase e h =
+    let begin : IsSmaller (summed_outs f.outs s) s =
+        subst (λ (outs : List UeOut). IsSmaller (summed_outs outs s) s) (sym e) (record { running = refl; started = refl; sent = is_within s.sent }) in
+    let end = (all_go_out supi acts s s f (record { smaller = begin })).smaller in
+    record {
+      runs = end.running ∙ h.runs;
+      owned = subst (λ (ids : List TimerId). HaveOwner phase ids) (sym end.started) h.owned;
+      few = few_within connected _ _ end.sent h.few;
+    }

@@ -1,0 +1,163 @@
+-- What the definitions of this crate say together.
+use Rattle.std.specs.Prelude.{◌≡◌, ◌≤◌, ◌↔◌, ◌⊎◌, ℕ, Bool, true, false, List, [], ◌∷◌, length, slice_index_or, Option, Some, None, Result, Ok, Err}
+use Rattle.nas_base.specs.declared.count.Dir.TheVariants.{Down}
+use Rattle.nas_elements.specs.Algs.{Algorithms}
+use Rattle.nas_security.specs.Contexts.{SecurityContext}
+use Rattle.nas_security.specs.Passing.{Passes}
+use Rattle.collision_rules.specs.Plain.{permitted_ue}
+use Rattle.collision_rules.specs.declared.action.Action.TheVariants.{Take}
+use Rattle.mm_messages.specs.KindOf.{kind_of}
+use Rattle.mm_messages.specs.Messages.{mm_in}
+use Rattle.mm_messages.specs.declared.message.Mm.{Mm}
+use Rattle.mm_messages.specs.declared.message.MmRefusal.TheVariants as refusals
+use Rattle.nas_timers.specs.declared.timer_id.TimerId.{TimerId}
+use Rattle.nas_timers.specs.declared.timer_id.TimerId.TheVariants.{T3510, T3516, T3517, T3521}
+use Rattle.ue_mm.specs.Checks.{Opened, opened}
+use Rattle.ue_mm.specs.Common.{Common}
+use Rattle.ue_mm.specs.Delivery.{action, header_of, is_permitted_type, is_plain_allowed, taken}
+use Rattle.ue_mm.specs.SecurityMode.{are_supported, made}
+use Rattle.ue_mm.specs.State.{MmState, timer_of}
+use Rattle.ue_mm.specs.Step.{Stepped, ended, started, step_of}
+use Rattle.ue_mm.specs.Work.{status}
+use Rattle.ue_mm.specs.declared.common.Pending.{Pending}
+use Rattle.ue_mm.specs.declared.inputs.StepRefusal.{StepRefusal}
+use Rattle.ue_mm.specs.declared.inputs.UeInput.{UeInput}
+use Rattle.ue_mm.specs.declared.inputs.UeInput.TheVariants.{Delivered, Expired}
+use Rattle.ue_mm.specs.declared.outs.UeOut.{UeOut}
+use Rattle.ue_mm.specs.declared.outs.UeOut.TheVariants.{Send, Start, Stop}
+use Rattle.ue_mm.specs.declared.procedures.Phase.{Phase}
+use Rattle.ue_mm.specs.declared.procedures.Phase.TheVariants.{Deregistered, Registering, Registered, Serving, Deregistering}
+use Rattle.ue_mm.specs.declared.work.Work.{Work}
+
+-- no count, header type and message are there as whose frame these octets pass under a context
+abbrev pub NothingPasses : SecurityContext → List ℕ → Type 0
+NothingPasses context octets = (count header : ℕ) (message : List ℕ) → ¬ (Passes context Down octets count header message)
+
+-- What a handset opens is what passes. It opens octets to the count and the message as whose frame they pass, and to nothing exactly
+-- where nothing passes.
+pub record IsOpenedWherePassing (context : SecurityContext) (octets : List ℕ) : Type 0 where
+  pub something :
+      (o : Opened) → (opened context octets ≡ Some o) ↔ ((header : ℕ) × Passes context Down octets o.count header o.message)
+  pub nothing : (opened context octets ≡ None) ↔ NothingPasses context octets
+
+-- Octets pass no check: not under the current context, and under none that the pending key makes with algorithms that a handset
+-- supports.
+pub record PassNoCheck (c : Common) (octets : List ℕ) : Type 0 where
+  pub current : (context : SecurityContext) → c.current ≡ Some context → NothingPasses context octets
+  pub pending : (p : Pending) (algs : Algorithms) → c.pending ≡ Some p → are_supported algs ≡ true → NothingPasses (made p algs) octets
+
+-- a handset reads plain octets: it is connected, and nothing was exchanged securely on the connection
+abbrev pub ReadsPlain : Common → Type 0
+ReadsPlain c = (c.connected ≡ true) × (c.secure ≡ false)
+
+-- a step that changes nothing, and that nothing goes out of
+abbrev pub DoesNothing : MmState → ℕ → List Bool → UeInput → Type 0
+DoesNothing s now held input = step_of s now held input ≡ Ok (record { state = s; outs = [] })
+
+-- Octets that pass no check change nothing and are answered by nothing, except plain ones where a handset reads plain octets (TS
+-- 24.501 clauses 4.4.4.1 and 4.4.4.2).
+abbrev pub UncheckedDoNothing : MmState → ℕ → List Bool → List ℕ → Type 0
+UncheckedDoNothing s now held octets =
+    PassNoCheck s.common octets → ¬ (ReadsPlain s.common × (header_of octets ≡ 0)) → DoesNothing s now held (Delivered octets)
+
+-- a step that works out so
+abbrev pub Does : MmState → ℕ → List Bool → UeInput → (Work → Work) → Type 0
+Does s now held input row = step_of s now held input ≡ Ok (ended (row (started s now held)))
+
+-- What plain octets do where a handset reads them (TS 24.501 clauses 4.4.4.2, 7.4 and 7.5.1). A message does what its row says where
+-- it is permitted, which only the kinds of the table are, and the table of collisions takes it, and any other message nothing. A
+-- type that isn't known is answered by STATUS 97, and a wrong part of a kind that is permitted by STATUS 96.
+pub record PlainDo (s : MmState) (now : ℕ) (held : List Bool) (octets : List ℕ) : Type 0 where
+  pub permitted :
+      (m : Mm) → mm_in octets ≡ Ok m → is_plain_allowed m ≡ true → action m (started s now held) ≡ Take
+      → (permitted_ue (kind_of m) ≡ true) × Does s now held (Delivered octets) (taken m)
+  pub not_permitted : (m : Mm) → mm_in octets ≡ Ok m → is_plain_allowed m ≡ false → DoesNothing s now held (Delivered octets)
+  pub not_taken :
+      (m : Mm) → mm_in octets ≡ Ok m → ¬ (action m (started s now held) ≡ Take) → DoesNothing s now held (Delivered octets)
+  pub unknown_type : (n : ℕ) → mm_in octets ≡ Err (refusals.UnknownType n) → Does s now held (Delivered octets) (status 97)
+  pub wrong_part :
+      (n at : ℕ) → mm_in octets ≡ Err (refusals.Mandatory n at) → is_permitted_type (slice_index_or octets 2 0) ≡ true
+      → Does s now held (Delivered octets) (status 96)
+  pub other_wrong_part :
+      (n at : ℕ) → mm_in octets ≡ Err (refusals.Mandatory n at) → is_permitted_type (slice_index_or octets 2 0) ≡ false
+      → DoesNothing s now held (Delivered octets)
+  pub ignored : (at : ℕ) → mm_in octets ≡ Err (refusals.Ignored at) → DoesNothing s now held (Delivered octets)
+
+abbrev pub PlainDoByKind : MmState → ℕ → List Bool → List ℕ → Type 0
+PlainDoByKind s now held octets =
+    ReadsPlain s.common → header_of octets ≡ 0 → length octets ≤ 4096 → PlainDo s now held octets
+
+-- which timers of procedures run: T3510 of a registration, T3517 of a service request, T3521 of a deregistration
+pub record Running : Type 0 where
+  pub t3510 : Bool
+  pub t3517 : Bool
+  pub t3521 : Bool
+
+abbrev pub with_timer : TimerId → Bool → Running → Running
+with_timer T3510 runs r = record r { t3510 = runs }
+with_timer T3517 runs r = record r { t3517 = runs }
+with_timer T3521 runs r = record r { t3521 = runs }
+with_timer _ runs r = r
+
+-- that of the procedure that is open, and no other
+abbrev pub no_timer : Running
+no_timer = record { t3510 = false; t3517 = false; t3521 = false }
+
+abbrev pub running_in : Phase → Running
+running_in Deregistered = no_timer
+running_in (Registering procedure) = with_timer T3510 true no_timer
+running_in Registered = no_timer
+running_in (Serving procedure) = with_timer T3517 true no_timer
+running_in (Deregistering procedure) = with_timer T3521 true no_timer
+
+-- a timer that expired has stopped
+abbrev pub running_at : UeInput → Running → Running
+running_at (Expired id) r = with_timer id false r
+running_at _ r = r
+
+-- what goes out starts and stops timers, in order
+abbrev pub running_after : UeOut → Running → Running
+running_after (Start id at) r = with_timer id true r
+running_after (Stop id) r = with_timer id false r
+running_after _ r = r
+
+abbrev pub running_behind : List UeOut → Running → Running
+running_behind [] r = r
+running_behind (out ∷ outs) r = running_behind outs (running_after out r)
+
+-- the timers that are started, in order
+abbrev pub started_timers : List UeOut → List TimerId
+started_timers [] = []
+started_timers (Start id at ∷ outs) = id ∷ started_timers outs
+started_timers (_ ∷ outs) = started_timers outs
+
+-- none is started, or T3516 alone, or that of the procedure that is open
+abbrev pub HaveOwner : Phase → List TimerId → Type 0
+HaveOwner phase [] = Unit {0}
+HaveOwner phase (id ∷ []) = (id ≡ T3516) ⊎ (timer_of phase ≡ Some id)
+HaveOwner phase (first ∷ second ∷ ids) = ⊥
+
+-- The timer of a procedure runs exactly while that procedure is open (TS 24.501 clause 10.2): if it was so before a step, what goes
+-- out leaves it so. A step starts one timer at most: T3516, or that of the procedure that is open behind it.
+abbrev pub TimersHaveOwners : MmState → UeInput → Result Stepped StepRefusal → Type 0
+TimersHaveOwners s input (Ok new) =
+    (running_behind new.outs (running_at input (running_in s.phase)) ≡ running_in new.state.phase)
+    × HaveOwner new.state.phase (started_timers new.outs)
+TimersHaveOwners s input (Err refusal) = Unit {0}
+
+-- the messages that are sent, in order: whether each is fresh
+abbrev pub sent : List UeOut → List Bool
+sent [] = []
+sent (Send fresh octets pass ∷ outs) = fresh ∷ sent outs
+sent (_ ∷ outs) = sent outs
+
+-- one at most, and fresh only without a connection
+abbrev pub AreOneAtMost : Bool → List Bool → Type 0
+AreOneAtMost connected [] = Unit {0}
+AreOneAtMost connected (fresh ∷ []) = fresh ≡ true → connected ≡ false
+AreOneAtMost connected (first ∷ second ∷ messages) = ⊥
+
+-- A step sends one message at most, and one that is the first of its connection only where there was none.
+abbrev pub SendsOneAtMost : MmState → Result Stepped StepRefusal → Type 0
+SendsOneAtMost s (Ok new) = AreOneAtMost s.common.connected (sent new.outs)
+SendsOneAtMost s (Err refusal) = Unit {0}
