@@ -8,12 +8,11 @@ use Rattle.ue_mm.specs.declared.inputs.StepRefusal.{StepRefusal}
 use Rattle.ue_mm.specs.declared.inputs.StepRefusal.TheVariants as steps
 use Rattle.ue_mm.specs.declared.inputs.UeInput.TheVariants.{Command, Delivered, Dropped, Restart}
 use Rattle.nas_handset.specs.State.{HandsetState}
-use Rattle.nas_handset.specs.Turns.{begun, onto, stepped, turned}
+use Rattle.nas_handset.specs.Turns.{Turn, begun, onto, stepped, turned}
 use Rattle.nas_handset.specs.declared.command.CommandRefusal.{CommandRefusal}
 use Rattle.nas_handset.specs.declared.command.CommandRefusal.TheVariants.{WrongState, Spent, Memory}
 use Rattle.nas_handset.specs.declared.command.UeCommand.{UeCommand}
 use Rattle.nas_handset.specs.declared.command.UeCommand.TheVariants.{Register, Service, Deregister}
-use Rattle.nas_handset.specs.declared.turn.Turn.{Turn}
 
 -- a command to the handset, as one to its mobility management
 abbrev pub mm_command : UeCommand → MmCommand

@@ -5,8 +5,7 @@ use Rattle.nas_timers.specs.Timers.{Running, deadline_of, due_of, stopped}
 use Rattle.nas_timers.specs.declared.timer_id.TimerId.{TimerId}
 use Rattle.ue_mm.specs.declared.inputs.UeInput.TheVariants.{Expired}
 use Rattle.nas_handset.specs.State.{HandsetState}
-use Rattle.nas_handset.specs.Turns.{begun, turned}
-use Rattle.nas_handset.specs.declared.turn.Turn.{Turn}
+use Rattle.nas_handset.specs.Turns.{Turn, begun, turned}
 
 -- those that are due when a tick begins, by deadline and then by name: the first of all, then the first of the others; there are
 -- at most as many as names

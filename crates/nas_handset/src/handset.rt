@@ -1,8 +1,9 @@
 //! The handset.
 ghost use Rattle.std.specs.Prelude.{◌≡◌, [], None, IfOk, OnErr};
 ghost use Rattle.nas_handset.specs.Handset.{Commands, StepsFirst, commanded, delivered, dropped, restarted};
+ghost use Rattle.nas_handset.specs.Owners.{HaveOwners, IsNoExpiry};
 ghost use Rattle.nas_handset.specs.State.{first};
-ghost use Rattle.nas_handset.specs.Ticks.{at_moment, is_due, ticked};
+ghost use Rattle.nas_handset.specs.Ticks.{at_moment, ticked};
 ghost use Rattle.nas_handset.specs.Turns.{begun, stepped, turned};
 ghost use Rattle.ue_mm.specs.State.{view_of};
 
@@ -17,7 +18,8 @@ use std::alloc::Global;
 use std::marker::Model;
 use ue_mm::{HandsetConfig, StepRefusal, UeInput, UeMm, UeView, follow};
 
-/// A handset: its 5GMM, the timers that run, and the moment that it was told last.
+/// A handset: its 5GMM, the timers that run, and the moment that it was told last. The timer of a procedure runs exactly while that
+/// procedure is open.
 #[derive(Drop)]
 pub struct Handset {
     pub(crate) mm: UeMm,
@@ -26,12 +28,15 @@ pub struct Handset {
 }
 
 impl Model for Handset {
+    ghost use Rattle.nas_handset.specs.Owners.{HaveOwners};
     ghost use Rattle.nas_handset.specs.State.{HandsetState};
     ghost use Rattle.ue_mm.specs.State.{state_of};
 
     ghost Value = { HandsetState };
 
     ghost view = { λ h. record { mm = state_of h.mm; timers = h.timers; moment = h.moment } };
+
+    ghost invariant = { λ h. HaveOwners (record { mm = state_of h.mm; timers = h.timers; moment = h.moment }) };
 }
 
 /// What came of octets that reached a handset.
@@ -88,10 +93,7 @@ impl Handset {
         ensures { Commands self.old self.new result (commanded command.now self.old) }
     {
         match self.first_step(alloc, UeInput::Command(command.to_mm())) {
-            Ok(turn) => {
-                *self = turn.handset;
-                Ok(turn.sends)
-            }
+            Ok(turn) => Ok(self.take_over(turn).sends),
             Err(StepRefusal::WrongState { state }) => Err(CommandRefusal::WrongState { state }),
             Err(StepRefusal::Spent { next }) => Err(CommandRefusal::Spent { next }),
             Err(StepRefusal::Memory) => Err(CommandRefusal::Memory),
@@ -113,12 +115,7 @@ impl Handset {
             Err(OctetsRefusal::Memory) => return Err(Memory),
         };
         let turn = self.unrefused(alloc, UeInput::Delivered(octets))?;
-        *self = turn.handset;
-        Ok(Delivery {
-            sends: turn.sends,
-            passed: turn.passed,
-            took: turn.took,
-        })
+        Ok(self.take_over(turn))
     }
 
     /// The moment is told, and every timer that is due fires, once. A moment before the last one counts as that one.
@@ -135,8 +132,7 @@ impl Handset {
         let list = due_list(alloc, handset.moment, &handset.timers)?;
         let mut turn = Turn::begin(alloc, handset);
         turn.fire_all(alloc, list)?;
-        *self = turn.handset;
-        Ok(turn.sends)
+        Ok(self.take_over(turn).sends)
     }
 
     /// The connection is lost.
@@ -149,7 +145,7 @@ impl Handset {
         ensures err { OnErr result (self.new ≡ self.old) }
     {
         let turn = self.unrefused(alloc, UeInput::Dropped)?;
-        *self = turn.handset;
+        let _nothing = self.take_over(turn);
         Ok(())
     }
 
@@ -163,7 +159,7 @@ impl Handset {
         ensures err { OnErr result (self.new ≡ self.old) }
     {
         let turn = self.unrefused(alloc, UeInput::Restart)?;
-        *self = turn.handset;
+        let _nothing = self.take_over(turn);
         Ok(())
     }
 
@@ -174,17 +170,32 @@ impl Handset {
         self.mm.view()
     }
 
-    // The turn of one step.
+    // The turn of one step. Its timers fit the state that it came to.
     fn first_step(&self, alloc: Global, input: UeInput) -> Result<Turn, StepRefusal>
+        requires { IsNoExpiry input }
+        ensures value { StepsFirst result (stepped input (begun self.now)) self.now }
+        ensures owned { IfOk result (λ turn. HaveOwners turn.handset) }
+    {
+        let _moment = self.moment;
+        match self.followed(alloc, input) {
+            Ok(turn) => Ok(turn),
+            Err(refusal) => Err(refusal),
+        }
+    }
+
+    // The new state, and the timers as what goes out leaves them.
+    fn followed(&self, alloc: Global, input: UeInput) -> Result<Turn, StepRefusal>
         ensures { StepsFirst result (stepped input (begun self.now)) self.now }
     {
         let (mm, outs) = follow(alloc, &self.mm, self.moment, &Status::empty(), input)?;
-        let handset = Handset {
+        let mut turn = Turn {
             mm,
             timers: self.timers.copy(),
             moment: self.moment,
+            sends: Sends::new(alloc),
+            passed: None,
+            took: None,
         };
-        let mut turn = Turn::begin(alloc, handset);
         match turn.take_all(alloc, outs) {
             Ok(()) => Ok(turn),
             Err(Memory) => Err(StepRefusal::Memory),
@@ -194,11 +205,30 @@ impl Handset {
     // The turn of one step that no refusal meets.
     #[tactic(auto, unfolding(crate::specs::Turns::turned))]
     fn unrefused(&self, alloc: Global, input: UeInput) -> Result<Turn, Memory>
-        ensures { IfOk result (λ turn. turn ≡ turned input (begun self.now)) }
+        requires { IsNoExpiry input }
+        ensures value { IfOk result (λ turn. turn ≡ turned input (begun self.now)) }
+        ensures owned { IfOk result (λ turn. HaveOwners turn.handset) }
     {
         match self.first_step(alloc, input) {
             Ok(turn) => Ok(turn),
             Err(_) => Err(Memory),
+        }
+    }
+
+    // The handset is what it came to in its turn, and what came of the turn is answered.
+    fn take_over(&mut self, turn: Turn) -> Delivery
+        requires { HaveOwners turn.handset }
+        ensures { turn ≡ record { handset = self.new; sends = result.sends; passed = result.passed; took = result.took } }
+    {
+        *self = Handset {
+            mm: turn.mm,
+            timers: turn.timers,
+            moment: turn.moment,
+        };
+        Delivery {
+            sends: turn.sends,
+            passed: turn.passed,
+            took: turn.took,
         }
     }
 
@@ -210,17 +240,6 @@ impl Handset {
             mm: self.mm,
             timers: self.timers,
             moment: self.moment.max(now),
-        }
-    }
-
-    // Whether the deadline of a timer is still there and has come.
-    #[tactic(auto, unfolding(nas_base::specs::Branches::per))]
-    pub(crate) fn is_due(&self, id: &TimerId) -> bool
-        ensures { result ≡ is_due id.now self.now }
-    {
-        match self.timers.deadline(*id) {
-            Some(at) => at <= self.moment,
-            None => false,
         }
     }
 }

@@ -1,8 +1,7 @@
 //! The timers that are due at a moment.
 ghost use Rattle.std.specs.Prelude.{◌≡◌, IfOk, OnOk};
-ghost use Rattle.nas_handset.specs.Ticks.{all_fired, due_list, fired};
+ghost use Rattle.nas_handset.specs.Ticks.{all_fired, due_list, fired, is_due};
 
-use crate::Handset;
 use crate::turn::Turn;
 use nas_base::{Memory, Moment};
 use nas_timers::{TimerId, Timers};
@@ -47,11 +46,22 @@ impl Turn {
     fn fire(&mut self, alloc: Global, id: TimerId) -> Result<(), Memory>
         ensures { OnOk result (self.new ≡ fired id self.old) }
     {
-        if !self.handset.is_due(&id) {
+        if !self.is_due(&id) {
             return Ok(());
         }
-        self.handset.timers.stop(same(&id));
+        self.timers.stop(same(&id));
         self.step(alloc, UeInput::Expired(id))
+    }
+
+    // Whether the deadline of a timer is still there and has come.
+    #[tactic(auto, unfolding(nas_base::specs::Branches::per))]
+    fn is_due(&self, id: &TimerId) -> bool
+        ensures { result ≡ is_due id.now self.now.handset }
+    {
+        match self.timers.deadline(*id) {
+            Some(at) => at <= self.moment,
+            None => false,
+        }
     }
 }
 

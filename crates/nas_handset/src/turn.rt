@@ -3,20 +3,33 @@ ghost use Rattle.std.specs.Prelude.{◌≡◌, OnOk};
 ghost use Rattle.nas_handset.specs.Turns.{all_taken, begun, sent, taken, turned};
 
 use crate::Handset;
-use nas_base::{Memory, Octets};
+use nas_base::{Memory, Moment, Octets};
 use nas_elements::Status;
 use nas_security::{Context, Pass, Send, Sends};
+use nas_timers::Timers;
 use std::alloc::Global;
-use ue_mm::{StepRefusal, UeInput, UeOut, UeOuts, follow};
+use std::marker::Model;
+use ue_mm::{StepRefusal, UeInput, UeMm, UeOut, UeOuts, follow};
 
 /// A handset while it takes its steps, with what came of them so far: the messages that were sent, the check that was passed, and
-/// the context that was taken into use.
+/// the context that was taken into use. Within a step the timers don't fit the state; so these are the parts of a handset.
 #[derive(Drop)]
 pub struct Turn {
-    pub handset: Handset,
+    pub mm: UeMm,
+    pub timers: Timers,
+    pub moment: Moment,
     pub sends: Sends,
     pub passed: Option<Pass>,
     pub took: Option<Context>,
+}
+
+impl Model for Turn {
+    ghost use Rattle.nas_handset.specs.Turns.{Turn as Parts};
+    ghost use Rattle.ue_mm.specs.State.{state_of};
+
+    ghost Value = { Parts };
+
+    ghost view = { λ t. record { handset = record { mm = state_of t.mm; timers = t.timers; moment = t.moment }; sends = t.sends; passed = t.passed; took = t.took } };
 }
 
 // A handset sends on link 1.
@@ -28,7 +41,9 @@ impl Turn {
         ensures { result ≡ begun handset }
     {
         Turn {
-            handset,
+            mm: handset.mm,
+            timers: handset.timers,
+            moment: handset.moment,
             sends: Sends::new(alloc),
             passed: None,
             took: None,
@@ -40,15 +55,9 @@ impl Turn {
     pub fn step(&mut self, alloc: Global, input: UeInput) -> Result<(), Memory>
         ensures { OnOk result (self.new ≡ turned input self.old) }
     {
-        match follow(
-            alloc,
-            &self.handset.mm,
-            self.handset.moment,
-            &Status::empty(),
-            input,
-        ) {
+        match follow(alloc, &self.mm, self.moment, &Status::empty(), input) {
             Ok((mm, outs)) => {
-                self.handset.mm = mm;
+                self.mm = mm;
                 self.take_all(alloc, outs)
             }
             Err(StepRefusal::Memory) => Err(Memory),
@@ -87,11 +96,11 @@ impl Turn {
                 Ok(())
             }
             UeOut::Start { id, at } => {
-                self.handset.timers.start(id, at);
+                self.timers.start(id, at);
                 Ok(())
             }
             UeOut::Stop(id) => {
-                self.handset.timers.stop(id);
+                self.timers.stop(id);
                 Ok(())
             }
             UeOut::ToSession(_)
