@@ -4,7 +4,7 @@ use Rattle.std.proofs.lemmas.List.Elements.{Contains-append_left, Contains-appen
 use Rattle.std.specs.List.{Contains}
 use Rattle.nas_timers.specs.declared.timer_id.TimerId.{TimerId}
 use Rattle.nas_timers.specs.declared.timer_id.TimerId.TheVariants.{T3510, T3517, T3521}
-use Rattle.ue_mm.specs.Laws.{Running, running_at, running_behind, running_in, with_timer}
+use Rattle.ue_mm.specs.Laws.{Running, running_at, running_after, running_in, with_timer}
 use Rattle.ue_mm.specs.State.{timer_of}
 use Rattle.ue_mm.specs.declared.inputs.UeInput.{UeInput}
 use Rattle.ue_mm.specs.declared.inputs.UeInput.TheVariants.{Command, Delivered, Expired, Dropped, Restart, Carry}
@@ -49,7 +49,7 @@ stop_or_behind id other outs P (inl same) there =
     (subst (λ (n : TimerId). Contains (Stop n ∷ []) (Stop id)) (sym same) (Contains-push [] (Stop id)))
 stop_or_behind id other outs P (inr still) there = behind (Stop other) outs (Stop id) (there still)
 
-is_stopped : (outs : List UeOut) (id : TimerId) (r : Running) → runs id r ≡ true → runs id (running_behind outs r) ≡ false
+is_stopped : (outs : List UeOut) (id : TimerId) (r : Running) → runs id r ≡ true → runs id (running_after outs r) ≡ false
     → Contains outs (Stop id)
 is_stopped [] id r e f = let other : true ≡ false = sym e ∙ f in absurd (cc)
 is_stopped (Start other at ∷ outs) id r e f = behind _ outs (Stop id) (is_stopped outs id _ (runs_on id other r e) f)
@@ -112,7 +112,7 @@ runs_at (Carry psi dnn frame) id r unlike e = e
 
 -- the timer of a procedure that a step leaves
 pub left_is_stopped : (old new : Phase) (input : UeInput) (outs : List UeOut)
-    → running_behind outs (running_at input (running_in old)) ≡ running_in new
+    → running_after outs (running_at input (running_in old)) ≡ running_in new
     → (id : TimerId) → timer_of old ≡ Some id → ¬ (timer_of new ≡ Some id) → ¬ (input ≡ Expired id) → Contains outs (Stop id)
 left_is_stopped old new input outs h id ran other unlike =
     is_stopped outs id (running_at input (running_in old)) (runs_at input id (running_in old) unlike (runs_in old id ran))

@@ -2,7 +2,7 @@
 use Rattle.std.proofs.Common.{◌≡◌, refl, sym, ap, subst, ◌∙◌, Bool, true, false, List, [], ◌∷◌, ◌++◌, append_assoc}
 use Rattle.std.proofs.lemmas.List.{append-nil}
 use Rattle.nas_timers.specs.declared.timer_id.TimerId.{TimerId}
-use Rattle.ue_mm.specs.Laws.{AreOneAtMost, HaveOwner, Running, running_after, running_behind, running_in, sent, started_timers, with_timer}
+use Rattle.ue_mm.specs.Laws.{AreOneAtMost, HaveOwner, Running, running_with, running_after, running_in, sent, started_timers, with_timer}
 use Rattle.ue_mm.specs.declared.acts.Act.{Act}
 use Rattle.ue_mm.specs.declared.acts.Act.TheVariants.{Say, Tell}
 use Rattle.ue_mm.specs.declared.outs.UeOut.{UeOut}
@@ -72,7 +72,7 @@ pub record IsSound (connected : Bool) (phase : Phase) (s : Summary) : Type 0 whe
   pub few : IsOneAtMost connected s.sent
 
 -- The words of the laws come of the summary.
-pub running_is : (outs : List UeOut) (s : Summary) → (summed_outs outs s).running ≡ running_behind outs s.running
+pub running_is : (outs : List UeOut) (s : Summary) → (summed_outs outs s).running ≡ running_after outs s.running
 running_is [] s = refl
 running_is (Send fresh octets pass ∷ outs) s = running_is outs _
 running_is (Start id at ∷ outs) s = running_is outs _
@@ -131,7 +131,7 @@ summed_from running = record { running = running; started = []; sent = none }
 
 pub sound_runs : (running : Running) (connected : Bool) (phase : Phase) (outs : List UeOut)
     → IsSound connected phase (summed_outs outs (summed_from running))
-    → (running_behind outs running ≡ running_in phase) × HaveOwner phase (started_timers outs)
+    → (running_after outs running ≡ running_in phase) × HaveOwner phase (started_timers outs)
 sound_runs running connected phase outs h = (
   sym (running_is outs (summed_from running)) ∙ h.runs,
   subst (λ (ids : List TimerId). HaveOwner phase ids) (started_is outs (summed_from running)) h.owned,

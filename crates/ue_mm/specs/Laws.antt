@@ -88,7 +88,7 @@ pub record PlainDo (s : MmState) (now : ℕ) (held : List Bool) (octets : List �
 abbrev pub PlainDoByKind : MmState → ℕ → List Bool → List ℕ → Type 0
 PlainDoByKind s now held octets = AreReadPlain s.common octets → PlainDo s now held octets
 
--- A step makes nothing secure: the connection is secure behind it only if it was, and the current context is the one that it was,
+-- A step makes nothing secure: the connection is secure afterwards only if it was before, and the current context is the one that it was,
 -- with its counts, or there is none.
 abbrev pub SecuresNothing : MmState → Result Stepped StepRefusal → Type 0
 SecuresNothing s (Ok new) =
@@ -128,14 +128,14 @@ running_at (Expired id) r = with_timer id false r
 running_at _ r = r
 
 -- what goes out starts and stops timers, in order
-abbrev pub running_after : UeOut → Running → Running
-running_after (Start id at) r = with_timer id true r
-running_after (Stop id) r = with_timer id false r
-running_after _ r = r
+abbrev pub running_with : UeOut → Running → Running
+running_with (Start id at) r = with_timer id true r
+running_with (Stop id) r = with_timer id false r
+running_with _ r = r
 
-abbrev pub running_behind : List UeOut → Running → Running
-running_behind [] r = r
-running_behind (out ∷ outs) r = running_behind outs (running_after out r)
+abbrev pub running_after : List UeOut → Running → Running
+running_after [] r = r
+running_after (out ∷ outs) r = running_after outs (running_with out r)
 
 -- the timers that are started, in order
 abbrev pub started_timers : List UeOut → List TimerId
@@ -151,9 +151,9 @@ HaveOwner phase (first ∷ second ∷ ids) = ⊥
 
 -- What a step leaves of the timers of procedures (TS 24.501 clause 10.2). The timer of a procedure runs exactly while that procedure
 -- is open: if it was so before the step, what goes out leaves it so. One timer at most is started: T3516, or that of the procedure
--- that is open behind the step. The timer of a procedure that the step leaves is stopped, unless it is the one that expired.
+-- that is open afterwards. The timer of a procedure that the step leaves is stopped, unless it is the one that expired.
 pub record HaveOwners (s : MmState) (input : UeInput) (new : Stepped) : Type 0 where
-  pub running : running_behind new.outs (running_at input (running_in s.phase)) ≡ running_in new.state.phase
+  pub running : running_after new.outs (running_at input (running_in s.phase)) ≡ running_in new.state.phase
   pub starts : HaveOwner new.state.phase (started_timers new.outs)
   pub stops :
       (id : TimerId) → timer_of s.phase ≡ Some id → ¬ (timer_of new.state.phase ≡ Some id) → ¬ (input ≡ Expired id)

@@ -26,14 +26,14 @@ pub fn plain_octets_by_kind(state: &UeMm, now: Moment, held: &Status, octets: &[
     ensures { PlainDoByKind (state_of state.now) now held.now octets.now }
 {}
 
-/// Plain octets make nothing secure: behind them the connection is secure only if it was, and the current context is the one that it
+/// Plain octets make nothing secure: afterwards the connection is secure only if it was, and the current context is the one that it
 /// was, with its counts, or there is none (TS 24.501 clause 4.4.2).
 pub fn plain_octets_secure_nothing(state: &UeMm, now: Moment, held: &Status, octets: &[u8])
     ensures { PlainSecuresNothing (state_of state.now) now held.now octets.now }
 {}
 
 /// The timer of a procedure runs exactly while the procedure is open: if it was so before a step, what the step starts and stops
-/// leaves it so. A step starts one timer at most: T3516, or that of the procedure that is open behind it. It stops the timer of a
+/// leaves it so. A step starts one timer at most: T3516, or that of the procedure that is open afterwards. It stops the timer of a
 /// procedure that it leaves, unless that is the one that expired (TS 24.501 clause 10.2).
 pub fn timers_have_owners(state: &UeMm, now: Moment, held: &Status, input: &UeInput)
     ensures { TimersHaveOwners (state_of state.now) input.now (step_of (state_of state.now) now held.now input.now) }
