@@ -11,7 +11,7 @@ use Rattle.mm_messages.specs.declared.message.Mm.TheVariants.{FiveGmmStatus, Sec
 use Rattle.mm_messages.specs.declared.message.MmRefusal.{MmRefusal}
 use Rattle.mm_messages.specs.declared.message.MmRefusal.TheVariants as refusals
 use Rattle.ue_mm.specs.Checks.{Opened, counted, noted, opened, with_count}
-use Rattle.ue_mm.specs.Delivery.{action, by_table, command_of, delivered, five_gmm_status, header_of, is_permitted_type, is_plain_allowed, new_context, passed, passed_read, plain, plain_by_table, plain_message, plain_read, protected, taken}
+use Rattle.ue_mm.specs.Delivery.{action, by_table, command_of, delivered, five_gmm_status, header_of, is_permitted_type, is_plain_allowed, new_context, passed, passed_read, plain, plain_by_table, plain_read, protected}
 use Rattle.ue_mm.specs.Laws.{running_in}
 use Rattle.ue_mm.specs.SecurityMode.{are_supported, command_completed, command_passed, command_picked, command_repeated, command_under_current, command_under_pending, is_acceptable, made, picked_current, picked_pending, security_mode_commanded, taken_into_use}
 use Rattle.ue_mm.specs.State.{is_deregistering}

@@ -1,17 +1,17 @@
 -- What commands, timers and the loss of a connection start, stop and say.
-use Rattle.std.proofs.Common.{◌≡◌, refl, sym, ap, ◌∙◌, ◌+◌, ◌==◌, ◌^◌, Bool, true, false, not, nat_lt, Result, Ok, Err}
+use Rattle.std.proofs.Common.{◌≡◌, refl, sym, ap, ◌∙◌, ◌+◌, ◌^◌, Bool, true, false, not, nat_lt, Result, Ok, Err}
 use Rattle.nas_base.specs.Branches.{when◌then◌else◌}
 use Rattle.nas_base.specs.declared.kind.Kind.{Kind}
 use Rattle.nas_base.specs.declared.kind.Kind.TheVariants as kinds
 use Rattle.nas_timers.specs.declared.timer_id.TimerId.{TimerId}
 use Rattle.nas_timers.specs.declared.timer_id.TimerId.TheVariants.{T3510, T3516, T3517, T3521, T3522, T3550, T3560, T3580, T3581, T3582, T3591, T3592}
 use Rattle.ue_mm.specs.Commands.{begun, commanded, is_deregistered, is_only_registered, is_spent, may_begin}
-use Rattle.ue_mm.specs.Connection.{deregistered, erased, idle}
+use Rattle.ue_mm.specs.Connection.{deregistered, idle}
 use Rattle.ue_mm.specs.Deregistration.{deregister, deregistering, deregistration_expired, deregistration_request, leaving}
 use Rattle.ue_mm.specs.Events.{dropped, expired, leaving_expired, lost, registration_expired, restarted, service_expired}
 use Rattle.ue_mm.specs.Laws.{no_timer, running_in, with_timer}
-use Rattle.ue_mm.specs.Registration.{began, register, registering, registration_left, registration_request}
-use Rattle.ue_mm.specs.Service.{serve, serving}
+use Rattle.ue_mm.specs.Registration.{began, register, registration_left}
+use Rattle.ue_mm.specs.Service.{serve}
 use Rattle.ue_mm.specs.State.{registering_word, word_of}
 use Rattle.ue_mm.specs.Work.{stop}
 use Rattle.ue_mm.specs.declared.inputs.MmCommand.{MmCommand}
@@ -25,8 +25,8 @@ use Rattle.ue_mm.specs.declared.procedures.Phase.{Phase}
 use Rattle.ue_mm.specs.declared.procedures.Phase.TheVariants.{Deregistered, Registering, Registered, Serving, Deregistering}
 use Rattle.ue_mm.specs.declared.work.Work.{Work}
 use Rattle.ue_mm.proofs.Branching.{when_holds}
-use Rattle.ue_mm.proofs.RowTools.{IsBegun, IsDone, IsQuiet, begun_is_done, begun_is_quiet, deregistered_is_done, erased_is_done, idle_is_done, quiet_is_done, request_is_done, request_is_quiet}
-use Rattle.ue_mm.proofs.Summary.{Summary, onto, summed, summed_act, summed_from}
+use Rattle.ue_mm.proofs.RowTools.{IsBegun, IsDone, IsQuiet, begun_is_done, begun_is_quiet, deregistered_is_done, erased_is_done, idle_is_done, request_is_done, request_is_quiet}
+use Rattle.ue_mm.proofs.Summary.{Summary, onto, summed_act, summed_from}
 
 -- what a command comes to: it is done, or refused
 abbrev pub IsWorked : Summary → Bool → Result Work StepRefusal → Type 0

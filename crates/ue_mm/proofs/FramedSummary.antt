@@ -1,11 +1,8 @@
 -- What goes out is what was said, but for messages that aren't sent.
-use Rattle.std.proofs.Common.{◌≡◌, refl, sym, ap, subst, ◌∙◌, ◌==◌, ◌^◌, ◌||◌, Bool, true, false, ℕ, List, [], ◌∷◌, ◌++◌, Some, None}
-use Rattle.nas_base.specs.Branches.{per, when◌then◌else◌}
-use Rattle.nas_base.specs.declared.count.Dir.TheVariants.{Up}
-use Rattle.nas_security.specs.Contexts.{SecurityContext}
+use Rattle.std.proofs.Common.{◌≡◌, refl, sym, ap, subst, ◌∙◌, ◌==◌, ◌^◌, ◌||◌, Bool, true, false, ℕ, List, [], ◌∷◌, ◌++◌, None}
 use Rattle.nas_timers.specs.declared.timer_id.TimerId.{TimerId}
 use Rattle.mm_messages.specs.Messages.{spelling}
-use Rattle.ue_mm.specs.Framing.{framed, framed_all, framed_plain, framed_protected, framed_under, is_too_long}
+use Rattle.ue_mm.specs.Framing.{framed, framed_all, framed_plain, framed_protected, is_too_long}
 use Rattle.ue_mm.specs.Laws.{HaveOwner, Running, with_timer}
 use Rattle.ue_mm.specs.declared.acts.Act.{Act}
 use Rattle.ue_mm.specs.declared.acts.Act.TheVariants.{Say, Tell}

@@ -1,6 +1,5 @@
 -- What messages of the network start, stop and say.
-use Rattle.std.proofs.Common.{◌≡◌, refl, sym, ap, subst, ◌∙◌, inl, ℕ, ◌==◌, ◌||◌, Bool, true, false, List, [], ◌∷◌, Option, Some, None, option_map}
-use Rattle.nas_base.specs.Branches.{per, when◌then◌else◌}
+use Rattle.std.proofs.Common.{◌≡◌, refl, sym, ap, subst, ◌∙◌, inl, ℕ, ◌==◌, ◌||◌, Bool, true, false, List, [], ◌∷◌, Option, Some, None}
 use Rattle.nas_base.specs.declared.kind.Kind.{Kind}
 use Rattle.nas_base.specs.declared.kind.Kind.TheVariants as kinds
 use Rattle.nas_base.specs.declared.mm_kind.MmKind.TheVariants as mm_kinds
@@ -9,26 +8,23 @@ use Rattle.collision_rules.specs.declared.action.Action.TheVariants.{Take, Statu
 use Rattle.milenage.specs.Checking.{checked}
 use Rattle.milenage.specs.declared.autn.AutnAnswer.{AutnAnswer}
 use Rattle.milenage.specs.declared.autn.AutnAnswer.TheVariants.{Accepted, MacFailure, NotFiveG, SynchFailure}
-use Rattle.nas_elements.specs.declared.asi.Asi.{Asi}
 use Rattle.nas_elements.specs.declared.guti.Guti.{Guti}
-use Rattle.nas_security.specs.Contexts.{SecurityContext}
 use Rattle.nas_timers.specs.declared.timer_id.TimerId.TheVariants.{T3510, T3516, T3517}
-use Rattle.mm_messages.specs.KindOf.{kind_of}
 use Rattle.mm_messages.specs.declared.message.Mm.{Mm}
 use Rattle.mm_messages.specs.declared.message.Mm.TheVariants.{RegistrationRequest, RegistrationAccept, RegistrationComplete, RegistrationReject, DeregistrationRequestUeOriginating, DeregistrationAcceptUeOriginating, DeregistrationRequestUeTerminated, DeregistrationAcceptUeTerminated, ServiceRequest, ServiceReject, ServiceAccept, ConfigurationUpdateCommand, ConfigurationUpdateComplete, AuthenticationRequest, AuthenticationResponse, AuthenticationReject, AuthenticationFailure, IdentityRequest, IdentityResponse, SecurityModeCommand, SecurityModeComplete, SecurityModeReject, FiveGmmStatus, UlNasTransport, DlNasTransport}
-use Rattle.ue_mm.specs.Authentication.{accepted, answer_again, answered, authentication_requested, challenged, failure, is_ksi_refused, response}
+use Rattle.ue_mm.specs.Authentication.{accepted, answer_again, answered, authentication_requested, challenged, failure, is_ksi_refused}
 use Rattle.ue_mm.specs.Connection.{deregistered, erased}
 use Rattle.ue_mm.specs.Delivery.{action, taken}
 use Rattle.ue_mm.specs.Deregistration.{deregistration_requested}
 use Rattle.ue_mm.specs.Identification.{identity_requested}
 use Rattle.ue_mm.specs.Laws.{Running, no_timer, running_in, with_timer}
-use Rattle.ue_mm.specs.Registration.{kept, named, registered, registration_accepted, registration_rejected}
+use Rattle.ue_mm.specs.Registration.{kept, named, registration_accepted, registration_rejected}
 use Rattle.ue_mm.specs.Service.{service_accepted, service_rejected}
 use Rattle.ue_mm.specs.State.{open_registration, registering_word, word_of}
 use Rattle.ue_mm.specs.Transport.{transported}
 use Rattle.ue_mm.specs.Work.{status, stop, tell}
 use Rattle.ue_mm.specs.declared.authentication.Request.{Request}
-use Rattle.ue_mm.specs.declared.outs.UeOut.TheVariants.{ToSession, NotForwarded}
+use Rattle.ue_mm.specs.declared.outs.UeOut.TheVariants.{ToSession}
 use Rattle.ue_mm.specs.declared.procedures.Phase.{Phase}
 use Rattle.ue_mm.specs.declared.procedures.Phase.TheVariants.{Deregistered, Registering, Registered, Serving, Deregistering}
 use Rattle.ue_mm.specs.declared.procedures.Registration.{Registration}

@@ -1,5 +1,5 @@
 -- What plain octets do.
-use Rattle.std.proofs.Common.{◌≡◌, refl, ap, ◌∙◌, ℕ, ◌≤◌, Bool, true, false, not, ◌==◌, ◌||◌, List, length, nat_lt, slice_index_or, Result, Ok, Err, arith}
+use Rattle.std.proofs.Common.{◌≡◌, refl, ap, ◌∙◌, ℕ, Bool, true, false, not, ◌==◌, ◌||◌, List, length, nat_lt, slice_index_or, Result, Ok, arith}
 use Rattle.std.proofs.lemmas.Grind.{common_steps}
 use Rattle.nas_base.specs.Branches.{when◌then◌else◌}
 use Rattle.collision_rules.specs.Plain.{permitted_ue}
@@ -10,7 +10,7 @@ use Rattle.mm_messages.specs.Messages.{mm_in}
 use Rattle.mm_messages.specs.declared.message.Mm.{Mm}
 use Rattle.mm_messages.specs.declared.message.Mm.TheVariants.{IdentityRequest, RegistrationReject, ServiceReject}
 use Rattle.mm_messages.specs.declared.message.MmRefusal.{MmRefusal}
-use Rattle.ue_mm.specs.Delivery.{action, delivered, header_of, is_permitted_type, is_plain_allowed, new_context, plain, plain_by_table, plain_read, protected, taken}
+use Rattle.ue_mm.specs.Delivery.{action, delivered, header_of, is_permitted_type, is_plain_allowed, new_context, plain, plain_by_table, plain_read, protected}
 use Rattle.ue_mm.specs.Laws.{AreReadPlain, Does, PlainDoByKind}
 use Rattle.ue_mm.specs.State.{MmState}
 use Rattle.ue_mm.specs.Step.{ended, started, worked}

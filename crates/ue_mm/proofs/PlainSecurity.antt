@@ -1,7 +1,7 @@
 -- Plain octets make nothing secure.
-use Rattle.std.proofs.Common.{◌≡◌, refl, sym, ap, subst, ◌∙◌, ◌⊎◌, inl, inr, ℕ, ◌==◌, ◌||◌, Bool, true, false, not, List, [], ◌∷◌, ◌++◌, length, nat_lt, Option, Some, None, Result, Ok, Err, slice_index_or, arith}
+use Rattle.std.proofs.Common.{◌≡◌, refl, sym, ◌∙◌, ◌⊎◌, inl, inr, ℕ, ◌==◌, ◌||◌, Bool, true, false, not, List, [], ◌∷◌, ◌++◌, length, nat_lt, Option, Some, None, Result, Ok, Err, slice_index_or, arith}
 use Rattle.std.proofs.lemmas.Grind.{common_steps}
-use Rattle.nas_base.specs.Branches.{per, when◌then◌else◌}
+use Rattle.nas_base.specs.Branches.{when◌then◌else◌}
 use Rattle.nas_security.specs.Contexts.{SecurityContext}
 use Rattle.key_chain.specs.Keys.{res_star}
 use Rattle.nas_timers.specs.Durations.{deadline_after, duration_of}
@@ -20,13 +20,13 @@ use Rattle.mm_messages.specs.declared.message.MmRefusal.TheVariants as refusals
 use Rattle.ue_mm.specs.Authentication.{accepted, answer_again, answered, authentication_requested, challenged, failure, is_ksi_refused}
 use Rattle.ue_mm.specs.Connection.{deregistered, erased, idle}
 use Rattle.ue_mm.specs.Delivery.{action, delivered, header_of, is_permitted_type, is_plain_allowed, new_context, plain, plain_by_table, plain_read, protected, taken}
-use Rattle.ue_mm.specs.Framing.{framed, framed_all, framed_plain, is_too_long}
+use Rattle.ue_mm.specs.Framing.{framed, framed_all, is_too_long}
 use Rattle.ue_mm.specs.Identification.{identity_requested}
 use Rattle.ue_mm.specs.Laws.{PlainSecuresNothing, SecuresNothing}
 use Rattle.ue_mm.specs.Registration.{registration_rejected}
 use Rattle.ue_mm.specs.Service.{service_accepted, service_rejected}
 use Rattle.ue_mm.specs.State.{MmState}
-use Rattle.ue_mm.specs.Step.{ended, started, step_of, worked}
+use Rattle.ue_mm.specs.Step.{ended, started, worked}
 use Rattle.ue_mm.specs.Work.{answer, start, status, stop, tell}
 use Rattle.ue_mm.specs.declared.acts.Act.{Act}
 use Rattle.ue_mm.specs.declared.acts.Act.TheVariants.{Say, Tell}
@@ -34,11 +34,10 @@ use Rattle.ue_mm.specs.declared.acts.Protection.{Protection}
 use Rattle.ue_mm.specs.declared.acts.Protection.TheVariants.{Plain, IntegrityProtected, Ciphered, CipheredWithNewContext}
 use Rattle.ue_mm.specs.declared.authentication.Request.{Request}
 use Rattle.ue_mm.specs.declared.framing.Framed.{Framed}
-use Rattle.ue_mm.specs.declared.inputs.UeInput.TheVariants.{Delivered}
 use Rattle.ue_mm.specs.declared.outs.UeOut.{UeOut}
 use Rattle.ue_mm.specs.declared.outs.UeOut.TheVariants.{Abandon, Clear, Start, Stop}
 use Rattle.ue_mm.specs.declared.work.Work.{Work}
-use Rattle.ue_mm.proofs.Branching.{per_holds, when_false, when_holds, when_true}
+use Rattle.ue_mm.proofs.Branching.{per_holds, when_false, when_holds}
 
 -- what is said is said plain
 abbrev ArePlain : List Act → Type 0

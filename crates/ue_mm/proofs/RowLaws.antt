@@ -1,6 +1,5 @@
 -- What the row of each input starts, stops and says.
-use Rattle.std.proofs.Common.{◌≡◌, refl, ℕ, Bool, List, Option}
-use Rattle.nas_base.specs.Branches.{when◌then◌else◌}
+use Rattle.std.proofs.Common.{refl, ℕ, Bool, List, Option}
 use Rattle.ue_mm.specs.Laws.{running_at, running_in}
 use Rattle.ue_mm.specs.State.{MmState}
 use Rattle.ue_mm.specs.Step.{started, worked}

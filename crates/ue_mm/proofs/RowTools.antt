@@ -1,7 +1,5 @@
 -- How a row is shown to start, stop and say what the laws allow: from what was said before it, by what it says.
-use Rattle.std.proofs.Common.{◌≡◌, refl, sym, ap, subst, ◌∙◌, inr, ℕ, Bool, true, false, not, Some, List, [], ◌∷◌, ◌++◌}
-use Rattle.std.proofs.lemmas.Grind.{common_steps}
-use Rattle.std.proofs.Common.{arith}
+use Rattle.std.proofs.Common.{◌≡◌, refl, sym, ap, subst, inr, Bool, true, false, not, Some, List, [], ◌∷◌}
 use Rattle.nas_timers.specs.declared.timer_id.TimerId.{TimerId}
 use Rattle.mm_messages.specs.declared.message.Mm.{Mm}
 use Rattle.ue_mm.specs.Connection.{connected, deregistered, erased, idle}
@@ -12,7 +10,7 @@ use Rattle.ue_mm.specs.declared.acts.Protection.{Protection}
 use Rattle.ue_mm.specs.declared.procedures.Phase.{Phase}
 use Rattle.ue_mm.specs.declared.procedures.Phase.TheVariants.{Deregistered}
 use Rattle.ue_mm.specs.declared.work.Work.{Work}
-use Rattle.ue_mm.proofs.Summary.{IsOneAtMost, IsSound, Sent, Summary, onto, summed, summed_from}
+use Rattle.ue_mm.proofs.Summary.{IsOneAtMost, IsSound, Summary, onto, summed, summed_from}
 use Rattle.ue_mm.proofs.Summary.Sent.{one}
 
 -- before a row: nothing was started or said, these timers run, and the connection is as it was

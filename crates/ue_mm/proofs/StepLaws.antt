@@ -1,6 +1,5 @@
 -- What a step starts, stops and sends.
-use Rattle.std.proofs.Common.{◌≡◌, refl, ℕ, Bool, List, [], Result, Ok, Err}
-use Rattle.ue_mm.specs.Framing.{framed_all}
+use Rattle.std.proofs.Common.{refl, ℕ, Bool, List, [], Result, Ok, Err}
 use Rattle.ue_mm.specs.Laws.{Running, SendsOneAtMost, TimersHaveOwners, running_at, running_in}
 use Rattle.ue_mm.specs.State.{MmState}
 use Rattle.ue_mm.specs.Step.{ended, finished, started, step_of, worked}
@@ -12,7 +11,7 @@ use Rattle.ue_mm.proofs.EventRows.{IsWorked}
 use Rattle.ue_mm.proofs.RowLaws.{input_is_worked}
 use Rattle.ue_mm.proofs.RowTools.{IsDone}
 use Rattle.ue_mm.proofs.StopLaws.{left_is_stopped}
-use Rattle.ue_mm.proofs.Summary.{IsSound, sound_runs, sound_sends, summed, summed_from, summed_outs}
+use Rattle.ue_mm.proofs.Summary.{IsSound, sound_runs, sound_sends, summed_from, summed_outs}
 
 -- what a row said is sound, and so is what goes out
 goes_out : (running : Running) (connected : Bool) (w : Work) → IsDone (summed_from running) connected w

@@ -1,14 +1,13 @@
 -- What a step said so far, as far as its laws speak of it: which timers run, which were started, and how many messages are sent.
-use Rattle.std.proofs.Common.{◌≡◌, refl, sym, ap, subst, ◌∙◌, Bool, true, false, List, [], ◌∷◌, ◌++◌, append_assoc}
+use Rattle.std.proofs.Common.{◌≡◌, refl, sym, subst, ◌∙◌, Bool, true, false, List, [], ◌∷◌, ◌++◌, append_assoc}
 use Rattle.std.proofs.lemmas.List.{append-nil}
 use Rattle.nas_timers.specs.declared.timer_id.TimerId.{TimerId}
-use Rattle.ue_mm.specs.Laws.{AreOneAtMost, HaveOwner, Running, running_with, running_after, running_in, sent, started_timers, with_timer}
+use Rattle.ue_mm.specs.Laws.{AreOneAtMost, HaveOwner, Running, running_after, running_in, sent, started_timers, with_timer}
 use Rattle.ue_mm.specs.declared.acts.Act.{Act}
 use Rattle.ue_mm.specs.declared.acts.Act.TheVariants.{Say, Tell}
 use Rattle.ue_mm.specs.declared.outs.UeOut.{UeOut}
 use Rattle.ue_mm.specs.declared.outs.UeOut.TheVariants.{Send, Passed, Took, ToSession, NotForwarded, Abandon, Clear, Keep, Start, Stop}
 use Rattle.ue_mm.specs.declared.procedures.Phase.{Phase}
-use Rattle.ue_mm.specs.declared.work.Work.{Work}
 
 -- how many messages are sent, and of one whether it is fresh
 pub data Sent : Type 0 where

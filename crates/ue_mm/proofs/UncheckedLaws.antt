@@ -1,5 +1,5 @@
 -- Octets that pass no check.
-use Rattle.std.proofs.Common.{◌≡◌, refl, sym, ap, subst, ◌∙◌, ℕ, ◌<◌, ◌≤◌, ◌⊎◌, inl, inr, Bool, true, false, not, ◌==◌, ◌||◌, List, [], get_or, length, nat_lt, Option, Some, None, Ok, Err, arith}
+use Rattle.std.proofs.Common.{◌≡◌, refl, ap, ◌∙◌, ℕ, ◌<◌, ◌⊎◌, inl, inr, Bool, not, ◌==◌, ◌||◌, List, get_or, length, nat_lt, Option, Some, None, Ok, arith}
 use Rattle.std.proofs.lemmas.Grind.{common_steps}
 use Rattle.nas_base.specs.Branches.{per, when◌then◌else◌}
 use Rattle.nas_base.specs.declared.count.Dir.TheVariants.{Down}
@@ -9,12 +9,11 @@ use Rattle.nas_security.specs.Passing.{Passes, judged}
 use Rattle.nas_security.specs.declared.verdicts.Verdict.{Verdict}
 use Rattle.nas_security.specs.declared.verdicts.Verdict.TheVariants as verdicts
 use Rattle.ue_mm.specs.Checks.{Opened, counted, noted, opened, opened_by, with_count}
-use Rattle.ue_mm.specs.Common.{Common}
-use Rattle.ue_mm.specs.Delivery.{command_of, delivered, frame_under_current, header_of, new_context, passed, plain, protected}
+use Rattle.ue_mm.specs.Delivery.{delivered, header_of, new_context, passed, plain, protected}
 use Rattle.ue_mm.specs.Laws.{AreReadPlain, DoesNothing, IsOpenedWherePassing, NothingPasses, PassNoCheck, UncheckedDoNothing}
 use Rattle.ue_mm.specs.SecurityMode.{are_supported, command_passed, command_picked, command_repeated, command_under_current, command_under_pending, made, picked_current, picked_pending, security_mode_commanded}
 use Rattle.ue_mm.specs.State.{MmState, is_deregistering}
-use Rattle.ue_mm.specs.Step.{ended, started, step_of, worked}
+use Rattle.ue_mm.specs.Step.{ended, started, worked}
 use Rattle.ue_mm.specs.declared.common.Pending.{Pending}
 use Rattle.ue_mm.specs.declared.inputs.UeInput.TheVariants.{Delivered}
 use Rattle.ue_mm.specs.declared.security_mode.Command.{Command}

@@ -1,5 +1,5 @@
 -- What the definitions of this crate say together.
-use Rattle.std.specs.Prelude.{◌≡◌, ◌≤◌, ◌↔◌, ◌⊎◌, ℕ, Bool, true, false, List, [], ◌∷◌, length, slice_index_or, Option, Some, None, Result, Ok, Err}
+use Rattle.std.specs.Prelude.{◌≡◌, ◌≤◌, ◌↔◌, ◌⊎◌, ℕ, Bool, true, false, List, [], ◌∷◌, length, slice_index_or, Some, None, Result, Ok, Err}
 use Rattle.std.specs.List.{Contains}
 use Rattle.nas_base.specs.declared.count.Dir.TheVariants.{Down}
 use Rattle.nas_elements.specs.Algs.{Algorithms}
