@@ -7,7 +7,7 @@ use Rattle.nas_timers.specs.Timers.{started, stopped}
 use Rattle.nas_timers.specs.declared.timer_id.TimerId.{TimerId}
 use Rattle.nas_timers.specs.declared.timer_id.TimerId.TheVariants.{T3510, T3516, T3517, T3521, T3522, T3550, T3560, T3580, T3581, T3582, T3591, T3592}
 use Rattle.nas_timers.proofs.DeadlineLaws.{deadline_of-started, deadline_of-stopped}
-use Rattle.ue_mm.specs.Laws.{TimersHaveOwners, running_after, running_at, running_behind, running_in, with_timer}
+use Rattle.ue_mm.specs.Laws.{TimersHaveOwners, running_with, running_at, running_after, running_in, with_timer}
 use Rattle.ue_mm.specs.Step.{Stepped, worked}
 use Rattle.ue_mm.specs.declared.inputs.UeInput.{UeInput}
 use Rattle.ue_mm.specs.declared.inputs.UeInput.TheVariants.{Expired}
@@ -50,7 +50,7 @@ stops (T3582 psi) ts = rw (deadline_of-stopped T3510 (T3582 psi) ts, deadline_of
 stops (T3591 psi) ts = rw (deadline_of-stopped T3510 (T3591 psi) ts, deadline_of-stopped T3517 (T3591 psi) ts, deadline_of-stopped T3521 (T3591 psi) ts) refl
 stops (T3592 psi) ts = rw (deadline_of-stopped T3510 (T3592 psi) ts, deadline_of-stopped T3517 (T3592 psi) ts, deadline_of-stopped T3521 (T3592 psi) ts) refl
 
-taken_runs : (out : UeOut) (t : Turn) → running_of (taken out t).handset.timers ≡ running_after out (running_of t.handset.timers)
+taken_runs : (out : UeOut) (t : Turn) → running_of (taken out t).handset.timers ≡ running_with out (running_of t.handset.timers)
 taken_runs (outs.Send fresh octets pass) t = refl
 taken_runs (outs.Passed pass) t = refl
 taken_runs (outs.Took context) t = refl
@@ -74,7 +74,7 @@ taken_stays (outs.Keep sessions) t = refl
 taken_stays (outs.Start id at) t = refl
 taken_stays (outs.Stop id) t = refl
 
-all_run : (list : List UeOut) (t : Turn) → running_of (all_taken list t).handset.timers ≡ running_behind list (running_of t.handset.timers)
+all_run : (list : List UeOut) (t : Turn) → running_of (all_taken list t).handset.timers ≡ running_after list (running_of t.handset.timers)
 all_run [] t = refl
 all_run (out ∷ list) t = all_run list (taken out t) ∙ rw (taken_runs out t) refl
 
@@ -87,7 +87,7 @@ onto_owned : (s : Stepped) (input : UeInput) (t : Turn) → TimersHaveOwners t.h
     running_of t.handset.timers ≡ running_at input (running_in t.handset.mm.phase) → HaveOwners (onto (Ok s) t).handset
 onto_owned s input t law runs =
     let next : Turn = record t { handset = record t.handset { mm = s.state } } in
-    rw (all_stay s.outs next) (all_run s.outs next ∙ rw runs law.0)
+    rw (all_stay s.outs next) (all_run s.outs next ∙ rw runs law.running)
 
 onto_by : (input : UeInput) (t : Turn) (r : Result Stepped StepRefusal) → stepped input t ≡ r →
     running_of t.handset.timers ≡ running_at input (running_in t.handset.mm.phase) →

@@ -1,5 +1,7 @@
 //! A handset's part of whole procedures. Each line has what comes, and behind `>` what is sent: plain octets, or the header type
 //! and the plain octets of a frame. The network's frames are made with keys that are derived here.
+ghost use Rattle.std.specs.Prelude.{◌<◌, ◌≤◌, ◌^◌};
+
 use crate::{HandsetConfig, MmCommand, StepRefusal, UeInput, UeMm, UeOut, UeOuts, step};
 use key_chain::{kamf, kausf, kseaf, nas_keys, res_star};
 use milenage::f2345;
@@ -206,9 +208,9 @@ fn registers(rt: HostRuntime) -> Result<(), Fail> {
     assert!(rt;
         view.state == MmWord::Registered && view.connected && view.secure && view.registered
     );
-    assert!(rt; matches!(view.guti, Some(guti) if guti.tmsi == 1));
+    assert!(rt; matches!(&view.guti, Some(guti) if guti.tmsi == 1));
     assert!(rt;
-        matches!(view.current, Some(context) if context.ksi == Ksi(0) && context.up == 2 && context.down == 2)
+        matches!(&view.current, Some(context) if context.ksi == Ksi(0) && context.up == 2 && context.down == 2)
     );
     assert!(rt; view.pending.is_none() && view.sqn_ms == 0xff9bb4d0b607);
     Ok(())
