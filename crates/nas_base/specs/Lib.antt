@@ -1,3 +1,4 @@
+pub mod Branches
 pub mod Digits
 pub mod Kinds
 pub mod Octets

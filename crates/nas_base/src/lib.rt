@@ -22,6 +22,7 @@ mod shape;
 mod sinks;
 pub mod sm_cause;
 mod sm_kind;
+mod state_words;
 mod supi;
 mod writer;
 
@@ -42,6 +43,7 @@ pub use crate::session::{Psi, Pti};
 pub use crate::shape::{Form, Row, Shape};
 pub use crate::sinks::{FaultySink, MemorySink};
 pub use crate::sm_kind::SmKind;
+pub use crate::state_words::{AmfWord, MmWord, SmWord, SmfWord};
 pub use crate::supi::Supi;
 pub use crate::writer::{Full, Writer};
 

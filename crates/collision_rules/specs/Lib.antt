@@ -1,0 +1,3 @@
+pub mod Mm
+pub mod Plain
+pub mod Sm

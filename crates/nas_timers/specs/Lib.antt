@@ -1,0 +1,5 @@
+pub mod Durations
+pub mod Names
+pub mod Places
+pub mod TimerLaws
+pub mod Timers
