@@ -35,3 +35,7 @@ abbrev pub stmsi_in : List ℕ → Option Stmsi
 stmsi_in octets =
     if length octets == 7 && type_of_identity octets == 4
     then Some (record { set_pointer = big_number 2 (drop 1 octets); tmsi = big_number 4 (drop 3 octets) }) else None
+
+-- what is left of a 5G-GUTI within its region
+abbrev pub stmsi_of : Guti → Stmsi
+stmsi_of g = record { set_pointer = g.set_pointer; tmsi = g.tmsi }

@@ -1,7 +1,7 @@
 //! What security a handset is capable of.
-ghost use Rattle.std.specs.Prelude.{◌≡◌, ◌≤◌, length};
+ghost use Rattle.std.specs.Prelude.{◌≡◌, ◌≤◌, ◌<◌, length};
 ghost use Rattle.nas_base.specs.Writing.{Writes};
-ghost use Rattle.nas_elements.specs.Capability.{capability_in};
+ghost use Rattle.nas_elements.specs.Capability.{capability_in, has_bit, has_ea, has_ia};
 ghost use Rattle.nas_elements.specs.Reads.{Reads};
 
 use crate::Wrong;
@@ -81,6 +81,20 @@ impl Capability {
         self.items.as_slice()
     }
 
+    /// Whether it has the ciphering algorithm 5G-EA of this number.
+    pub fn has_ea(&self, number: u8) -> bool
+        ensures { result ≡ has_ea number self.now }
+    {
+        number < 8 && has_bit(self.items[0], number)
+    }
+
+    /// Whether it has the integrity algorithm 5G-IA of this number.
+    pub fn has_ia(&self, number: u8) -> bool
+        ensures { result ≡ has_ia number self.now }
+    {
+        number < 8 && has_bit(self.items[1], number)
+    }
+
     /// An equal value.
     pub fn copy(&self) -> Capability
         ensures value { result ≡ self.now }
@@ -89,4 +103,22 @@ impl Capability {
         let _ = &self.items;
         Capability::from_slice(self.as_slice()).unwrap()
     }
+}
+
+// Whether the bit of the algorithm of this number is set.
+fn has_bit(octet: u8, number: u8) -> bool
+    requires { number < 8 }
+    ensures { result ≡ has_bit octet number }
+{
+    let weight = match number {
+        0 => 128,
+        1 => 64,
+        2 => 32,
+        3 => 16,
+        4 => 8,
+        5 => 4,
+        6 => 2,
+        _ => 1,
+    };
+    octet / weight % 2 == 1
 }

@@ -1,7 +1,7 @@
 //! The temporary identities: 5G-GUTI and 5G-S-TMSI.
 ghost use Rattle.std.specs.Prelude.{◌≡◌};
 ghost use Rattle.nas_base.specs.Writing.{Writes};
-ghost use Rattle.nas_elements.specs.Guti.{guti_in, guti_octets, stmsi_in, stmsi_octets};
+ghost use Rattle.nas_elements.specs.Guti.{guti_in, guti_octets, stmsi_in, stmsi_octets, stmsi_of};
 ghost use Rattle.nas_elements.specs.Layout.{guti_layout, met, stmsi_layout};
 ghost use Rattle.nas_elements.specs.Reads.{Reads};
 
@@ -72,6 +72,28 @@ impl Guti {
             .try_extend_from_slice(&in_four_octets(self.tmsi))
             .unwrap();
         out.put(octets.as_slice())
+    }
+
+    /// An equal value.
+    pub fn copy(&self) -> Guti
+        ensures { result ≡ self.now }
+    {
+        Guti {
+            plmn: self.plmn.copy(),
+            region: self.region,
+            set_pointer: self.set_pointer,
+            tmsi: self.tmsi,
+        }
+    }
+
+    /// What is left of it within its region.
+    pub fn stmsi(&self) -> Stmsi
+        ensures { result ≡ stmsi_of self.now }
+    {
+        Stmsi {
+            set_pointer: self.set_pointer,
+            tmsi: self.tmsi,
+        }
     }
 
     // The 5G-GUTI in the octets, if there is one.

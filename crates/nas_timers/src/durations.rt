@@ -59,8 +59,8 @@ impl Durations {
     }
 
     /// How long a timer runs.
-    pub fn of(&self, id: TimerId) -> Moment
-        ensures { result ≡ duration_of id self.now }
+    pub fn of(&self, id: &TimerId) -> Moment
+        ensures { result ≡ duration_of id.now self.now }
     {
         match id {
             TimerId::T3510 => self.t3510,

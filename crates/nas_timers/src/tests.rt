@@ -123,7 +123,7 @@ fn lasts(rt: HostRuntime) -> Result<(), Fail> {
         (TimerId::T3592(psi(1)?), 16_000),
     ];
     for (id, ms) in table {
-        assert_eq!(rt; durations.of(id), Moment::at(ms));
+        assert_eq!(rt; durations.of(&id), Moment::at(ms));
     }
     assert_eq!(rt;
         deadline_after(Moment::at(1), Moment::at(15_000)),
