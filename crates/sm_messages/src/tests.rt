@@ -1,6 +1,8 @@
 //! Messages: octets, and what is written of the value that they have, or why they have none.
-use crate::{SmRefusal, decode_sm, encode_sm};
+use crate::{Session, SmRefusal, decode_sm, encode_sm};
 use nas_base::{Full, Writer};
+use nas_elements::{Address, Ambr, Dnn, Slice};
+use nas_qos::Rules;
 use std::process::Abort;
 use std::test::Fail;
 
@@ -210,5 +212,28 @@ fn octets_that_are_no_message(rt: HostRuntime) -> Result<(), Fail> {
             Ok(_) => return Err("a message".into()),
         }
     }
+    Ok(())
+}
+
+#[test]
+fn a_session_and_its_copy(rt: HostRuntime) -> Result<(), Fail> {
+    let alloc = rt.alloc();
+    let session = Session {
+        kind: 1,
+        address: Some(Address::V4([10, 45, 0, 2])),
+        dnn: Some(Dnn::read(b"\x08internet").ok().ok_or("a name")?),
+        slice: Some(Slice { sst: 1, sd: None }),
+        ambr: Ambr {
+            down_unit: 6,
+            down: 1000,
+            up_unit: 6,
+            up: 1000,
+        },
+        rules: Rules::new(alloc),
+    };
+    let mut copy = session.copy(alloc).ok().ok_or("memory")?;
+    assert!(rt; copy.equals(&session));
+    copy.ambr.up = 1;
+    assert!(rt; !copy.equals(&session));
     Ok(())
 }
