@@ -11,7 +11,7 @@ use Rattle.mm_messages.specs.declared.message.Mm.TheVariants.{RegistrationReject
 use Rattle.mm_messages.specs.declared.registration.RegistrationType.{RegistrationType}
 use Rattle.mm_messages.specs.declared.registration.RegistrationType.TheVariants.{Initial, Mobility, Periodic, Emergency}
 use Rattle.amf_core.specs.Challenges.{idle, stopped}
-use Rattle.amf_core.specs.Config.{AmfValues}
+use Rattle.amf_core.specs.declared.config.Configured.{Configured}
 use Rattle.amf_core.specs.Naming.{is_any, is_guti}
 use Rattle.amf_core.specs.Registration.{accept_sent}
 use Rattle.amf_core.specs.Work.{answer_for, ask, put, start}
@@ -44,7 +44,7 @@ told_sessions q s =
     else per q.status s.status (λ (held : List Bool). both s.status held)
 
 -- a new 5G-GUTI has the next 5G-TMSI; beside it the one that the request named is kept, if it was
-abbrev pub new_guti : AmfValues → ℕ → Guti
+abbrev pub new_guti : Configured → ℕ → Guti
 new_guti config tmsi = record { plmn = config.plmn; region = config.region; set_pointer = config.set_pointer; tmsi = tmsi }
 
 abbrev pub kept_with : Option Guti → Guti → List Guti → List Guti

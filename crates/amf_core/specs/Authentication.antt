@@ -10,7 +10,8 @@ use Rattle.mm_messages.specs.declared.message.Mm.TheVariants.{AuthenticationReje
 use Rattle.amf_core.specs.Challenges.{challenge, challenge_open, challenge_put, ended}
 use Rattle.amf_core.specs.Registration.{is_on}
 use Rattle.amf_core.specs.Work.{answer_for}
-use Rattle.amf_core.specs.declared.procedures.Authentication.{Authentication}
+use Rattle.amf_core.specs.Answers.{AuthenticationValues}
+use Rattle.amf_core.specs.declared.authentication.Asking.{Asking}
 use Rattle.amf_core.specs.declared.procedures.Challenging.{Challenging}
 use Rattle.amf_core.specs.declared.procedures.Phase.{Phase}
 use Rattle.amf_core.specs.declared.procedures.Phase.TheVariants.{Auth, Mode}
@@ -21,11 +22,7 @@ use Rattle.amf_core.specs.declared.procedures.Purpose.TheVariants.{Registration,
 use Rattle.amf_core.specs.declared.subscriber.Subscriber.{Subscriber}
 use Rattle.amf_core.specs.declared.work.Work.{Work}
 
--- a challenge that waits for the answer to its AUTHENTICATION REQUEST, which is taken on its own link alone
-pub record Asking : Type 0 where
-  pub challenging : Challenging
-  pub auth : Authentication
-
+-- The challenge that waits for the answer to its AUTHENTICATION REQUEST, which is taken on its own link alone.
 abbrev pub asking_in : Phase → Challenging → Option Asking
 asking_in (Auth a) c = Some (record { challenging = c; auth = a })
 asking_in (Mode context) c = None
@@ -37,7 +34,7 @@ asking_on number (procedures.Accepting a) = None
 asking_on number (procedures.Deregistering d) = None
 
 -- the context of a challenge that was answered: its keys for the chosen algorithms, and counts 0
-abbrev pub made : Authentication → SecurityContext
+abbrev pub made : AuthenticationValues → SecurityContext
 made a = record {
   challenge = a.challenge;
   ksi = a.ksi;
@@ -58,7 +55,7 @@ mode_commanded o s w = challenge_put (commanding o) (challenge_open (commanding 
 abbrev pub authentication_rejected : ℕ → Subscriber → Work → Work
 authentication_rejected number s w = answer_for s number AuthenticationReject (ended s w)
 
-abbrev pub is_expected : Option (List ℕ) → Authentication → Bool
+abbrev pub is_expected : Option (List ℕ) → AuthenticationValues → Bool
 is_expected res_star a = per res_star false (λ (octets : List ℕ). bytes_eq octets a.res_star)
 
 -- AUTHENTICATION RESPONSE

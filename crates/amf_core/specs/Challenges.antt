@@ -1,5 +1,5 @@
 -- Challenges: how one starts, what is sent of it, and how a procedure ends (TS 24.501 clauses 5.4.1.3 and 5.4.2, TS 33.501 clause 6.1.3.2).
-use Rattle.std.specs.Prelude.{ℕ, Bool, true, false, not, ◌==◌, ◌&&◌, ◌||◌, List, [], ◌∷◌, take, Option, Some, None, Result, Ok, Err, if◌then◌else◌}
+use Rattle.std.specs.Prelude.{ℕ, ◌<◌, ◌^◌, Bool, true, false, not, ◌==◌, ◌&&◌, ◌||◌, List, [], ◌∷◌, take, Option, Some, None, Result, Ok, Err, if◌then◌else◌}
 use Rattle.nas_base.specs.Branches.{per, when◌then◌else◌}
 use Rattle.key_chain.specs.Keys.{kamf, kausf, kseaf, res_star}
 use Rattle.milenage.specs.Home.{challenge_of, challenged}
@@ -10,10 +10,10 @@ use Rattle.nas_elements.specs.Capability.{has_ea}
 use Rattle.nas_elements.specs.declared.asi.Asi.{Asi}
 use Rattle.nas_timers.specs.declared.timer_id.TimerId.TheVariants.{T3522, T3550, T3560}
 use Rattle.mm_messages.specs.declared.message.Mm.TheVariants.{AuthenticationRequest, SecurityModeCommand}
-use Rattle.amf_core.specs.Config.{AmfValues}
+use Rattle.amf_core.specs.declared.config.Configured.{Configured}
 use Rattle.amf_core.specs.Work.{by_link, link_of, put, put_link, reject, say, say_on, start, stop}
 use Rattle.amf_core.specs.declared.acts.Protection.TheVariants.{IntegrityProtectedWithNewContext}
-use Rattle.amf_core.specs.declared.procedures.Authentication.{Authentication}
+use Rattle.amf_core.specs.Answers.{AuthenticationValues}
 use Rattle.amf_core.specs.declared.procedures.Challenging.{Challenging}
 use Rattle.amf_core.specs.declared.procedures.Phase.{Phase}
 use Rattle.amf_core.specs.declared.procedures.Phase.TheVariants.{Auth, Mode}
@@ -56,7 +56,7 @@ abbrev pub capability_of : Subscriber → List ℕ
 capability_of s = per s.capability no_algorithm (λ (capability : List ℕ). capability)
 
 -- 128-NEA2 where the handset can't do without ciphering, or where it can cipher by it and the network prefers to
-abbrev pub chosen_nea : AmfValues → List ℕ → ℕ
+abbrev pub chosen_nea : Configured → List ℕ → ℕ
 chosen_nea config capability = if not (has_ea 0 capability) || (has_ea 2 capability && config.nea == 2) then 2 else 0
 
 -- the ABBA of this release (TS 33.501 Annex A.7.1)
@@ -64,11 +64,11 @@ abbrev pub abba : List ℕ
 abba = 0 ∷ 0 ∷ []
 
 -- KAMF of a vector: the first six octets of AUTN are SQN XOR AK (TS 33.501 Annex A)
-abbrev pub kamf_of : AmfValues → List ℕ → Vector → List ℕ
+abbrev pub kamf_of : Configured → List ℕ → Vector → List ℕ
 kamf_of config supi v = kamf (kseaf (kausf v.ck v.ik config.plmn (take 6 v.autn)) config.plmn) supi abba
 
 -- what the answer to a vector is compared with, and what comes of it
-abbrev pub authentication : AmfValues → Vector → Subscriber → Authentication
+abbrev pub authentication : Configured → Vector → Subscriber → AuthenticationValues
 authentication config v s = record {
   challenge = record { sqn = v.sqn; rand = v.rand };
   ksi = new_ksi s;
@@ -84,7 +84,7 @@ abbrev pub asked_for : Purpose → Option Asi
 asked_for (Registration request) = Some (record { 0 = 2 })
 asked_for Command = None
 
-abbrev pub request_sent : Authentication → ℕ → Subscriber → Work → Work
+abbrev pub request_sent : AuthenticationValues → ℕ → Subscriber → Work → Work
 request_sent a number s w =
     say number (by_link (link_of number w) s.supi) (AuthenticationRequest a.ksi abba (Some a.challenge.rand) (Some a.autn)) w
 
@@ -111,7 +111,7 @@ challenge_put c s w = start T3560 s (challenge_sent c s (put s w))
 abbrev pub challenge_open : Challenging → Subscriber → Subscriber
 challenge_open c s = record s { procedure = procedures.Challenging c }
 
-abbrev pub begun_with : Authentication → Purpose → Option ℕ → Subscriber → Work → Work
+abbrev pub begun_with : AuthenticationValues → Purpose → Option ℕ → Subscriber → Work → Work
 begun_with a purpose link s w =
     let c : Challenging = record { purpose = purpose; link = link; phase = Auth a; sendings = 1 } in
     challenge_put c (challenge_open c (record s { last_ksi = Some a.ksi })) (claimed link s.supi w)
@@ -131,6 +131,11 @@ told capability s = per capability s (λ (octets : List ℕ). record s { capabil
 abbrev pub by_vector : Result Vector HomeRefusal → Purpose → Option ℕ → Option (List ℕ) → Subscriber → Work → Work
 by_vector (Ok v) purpose link capability s w = challenge_begun purpose link v (told capability (idle s)) w
 by_vector (Err refusal) purpose link capability s w = challenge_refused purpose link (put (idle s) w)
+
+-- what the home network answers: a sequence number has 48 bits
+abbrev pub VectorFits : Result Vector HomeRefusal → Type 0
+VectorFits (Ok v) = v.sqn < 2 ^ 48
+VectorFits (Err refusal) = Unit {0}
 
 -- A challenge starts, whatever was open ends.
 unfoldable pub challenge : Purpose → Option ℕ → Option (List ℕ) → Subscriber → Work → Work

@@ -8,12 +8,14 @@ use Rattle.nas_security.specs.Passing.{judged}
 use Rattle.nas_security.specs.declared.challenges.Challenge.{Challenge}
 use Rattle.nas_security.specs.declared.verdicts.Verdict.{Verdict}
 use Rattle.nas_security.specs.declared.verdicts.Verdict.TheVariants as verdicts
-use Rattle.amf_core.specs.SecurityMode.{Commanding, commanding_on}
+use Rattle.amf_core.specs.SecurityMode.{commanding_on}
 use Rattle.amf_core.specs.Work.{link_of, put, put_link, tell}
+use Rattle.amf_core.specs.declared.checks.Check.{Check}
 use Rattle.amf_core.specs.declared.outs.AmfOut.TheVariants.{Passed}
 use Rattle.amf_core.specs.declared.procedures.Challenging.{Challenging}
 use Rattle.amf_core.specs.declared.procedures.Phase.TheVariants.{Mode}
 use Rattle.amf_core.specs.declared.procedures.Procedure.TheVariants as procedures
+use Rattle.amf_core.specs.declared.security_mode.Commanding.{Commanding}
 use Rattle.amf_core.specs.declared.subscriber.Subscriber.{Subscriber}
 use Rattle.amf_core.specs.declared.work.Work.{Work}
 
@@ -36,13 +38,9 @@ opened context octets = opened_by (judged context Up octets)
 abbrev pub with_count : ℕ → SecurityContext → SecurityContext
 with_count count context = with_next context Up (count + 1)
 
--- what passed: the subscriber as it is afterwards, the challenge of the context and whether the context still waits to be taken into
--- use, the count, and the plain message
-pub record Check : Type 0 where
-  pub subscriber : Subscriber
-  pub challenge : Challenge
-  pub is_pending : Bool
-  pub count : ℕ
+-- what passed, and its plain message
+pub record Passage : Type 0 where
+  pub check : Check
   pub message : List ℕ
 
 -- The link of a message that passed becomes the subscriber's.
@@ -52,13 +50,12 @@ passed_in_use number context o s = record {
   challenge = context.challenge;
   is_pending = false;
   count = o.count;
-  message = o.message;
 }
 
-unfoldable pub checked_in_use : ℕ → List ℕ → Subscriber → Option Check
+unfoldable pub checked_in_use : ℕ → List ℕ → Subscriber → Option Passage
 checked_in_use number octets s =
     per s.in_use None (λ (context : SecurityContext).
-    per (opened context octets) None (λ (o : Opened). Some (passed_in_use number context o s)))
+    per (opened context octets) None (λ (o : Opened). Some (record { check = passed_in_use number context o s; message = o.message })))
 
 abbrev pub counted_mode : Commanding → ℕ → Challenging
 counted_mode m count = record m.challenging { phase = Mode (with_count count m.context) }
@@ -69,17 +66,16 @@ passed_pending number m o s = record {
   challenge = m.context.challenge;
   is_pending = true;
   count = o.count;
-  message = o.message;
 }
 
-unfoldable pub checked_pending : ℕ → List ℕ → Subscriber → Option Check
+unfoldable pub checked_pending : ℕ → List ℕ → Subscriber → Option Passage
 checked_pending number octets s =
     per (commanding_on number s.procedure) None (λ (m : Commanding).
-    per (opened m.context octets) None (λ (o : Opened). Some (passed_pending number m o s)))
+    per (opened m.context octets) None (λ (o : Opened). Some (record { check = passed_pending number m o s; message = o.message })))
 
 -- header type 4: the context that was commanded on this link, then the one in use
-abbrev pub checked_new : ℕ → List ℕ → Subscriber → Option Check
-checked_new number octets s = per (checked_pending number octets s) (checked_in_use number octets s) (λ (c : Check). Some c)
+abbrev pub checked_new : ℕ → List ℕ → Subscriber → Option Passage
+checked_new number octets s = per (checked_pending number octets s) (checked_in_use number octets s) (λ (p : Passage). Some p)
 
 -- A message that passed takes its count, and makes its link secure and its subscriber that of the link.
 abbrev pub noted : ℕ → Check → Work → Work

@@ -6,7 +6,6 @@ use Rattle.collision_rules.specs.Mm.{collide_amf}
 use Rattle.collision_rules.specs.Plain.{permitted_amf}
 use Rattle.collision_rules.specs.declared.action.Action.{Action}
 use Rattle.collision_rules.specs.declared.action.Action.TheVariants.{Take, Discard, Status98, Status43, Status47}
-use Rattle.nas_elements.specs.declared.identity.Identity.{Identity}
 use Rattle.mm_messages.specs.KindOf.{kind_of}
 use Rattle.mm_messages.specs.Messages.{mm_in}
 use Rattle.mm_messages.specs.declared.message.Mm.{Mm}
@@ -15,7 +14,7 @@ use Rattle.mm_messages.specs.declared.message.MmRefusal.{MmRefusal}
 use Rattle.mm_messages.specs.declared.message.MmRefusal.TheVariants as refusals
 use Rattle.amf_core.specs.Acceptance.{registration_completed}
 use Rattle.amf_core.specs.Authentication.{authentication_failed, responded}
-use Rattle.amf_core.specs.Checks.{Check, checked_in_use, checked_new, noted}
+use Rattle.amf_core.specs.Checks.{Passage, checked_in_use, checked_new, noted}
 use Rattle.amf_core.specs.Deregistration.{deregistration_accepted, deregistration_requested}
 use Rattle.amf_core.specs.Identification.{identity_told}
 use Rattle.amf_core.specs.Naming.{kept_for}
@@ -25,6 +24,7 @@ use Rattle.amf_core.specs.Service.{service_refused, service_requested}
 use Rattle.amf_core.specs.State.{word_of}
 use Rattle.amf_core.specs.Transport.{transported}
 use Rattle.amf_core.specs.Work.{link_of, put_link, status, subscriber_of_link}
+use Rattle.amf_core.specs.declared.checks.Check.{Check}
 use Rattle.amf_core.specs.declared.subscriber.Subscriber.{Subscriber}
 use Rattle.amf_core.specs.declared.work.Work.{Work}
 
@@ -76,15 +76,21 @@ by_table Status47 number c message w = w
 abbrev pub action : Mm → Subscriber → Action
 action message s = collide_amf (word_of s) s.registered (kind_of message)
 
-abbrev pub passed_read : Result Mm MmRefusal → ℕ → Check → Work → Work
-passed_read (Ok message) number c w = by_table (action message c.subscriber) number c message w
-passed_read (Err (refusals.Ignored at)) number c w = w
-passed_read (Err (refusals.UnknownType n)) number c w = status number 97 w
-passed_read (Err (refusals.Mandatory n at)) number c w = when type_of c.message == five_gmm_status then w else status number 96 w
-passed_read (Err refusals.Memory) number c w = w
+abbrev pub faulty : ℕ → List ℕ → Work → Work
+faulty number octets w = when type_of octets == five_gmm_status then w else status number 96 w
 
-unfoldable pub passed : ℕ → Check → Work → Work
-passed number c w = passed_read (mm_in c.message) number c (noted number c w)
+abbrev pub passed_read : Result Mm MmRefusal → List ℕ → ℕ → Check → Work → Work
+passed_read (Ok message) octets number c w = by_table (action message c.subscriber) number c message w
+passed_read (Err (refusals.Ignored at)) octets number c w = w
+passed_read (Err (refusals.UnknownType n)) octets number c w = status number 97 w
+passed_read (Err (refusals.Mandatory n at)) octets number c w = faulty number octets w
+passed_read (Err refusals.Memory) octets number c w = w
+
+unfoldable pub passed : ℕ → List ℕ → Check → Work → Work
+passed number octets c w = passed_read (mm_in octets) octets number c (noted number c w)
+
+abbrev pub passing : ℕ → Passage → Work → Work
+passing number p w = passed number p.message p.check w
 
 -- The plain messages that are taken before secure exchange: those of the table. They have the rows of the subscriber that the link last
 -- passed or challenged. A SERVICE REQUEST that didn't pass is rejected.
@@ -134,48 +140,49 @@ plain number octets w = when (link_of number w).secure then w else plain_read (m
 
 -- A frame of header type 1 isn't ciphered, so that a request inside tells who sent it: a REGISTRATION, SERVICE or DEREGISTRATION REQUEST
 -- that names a kept identity is checked for that subscriber. Any other frame is checked for the subscriber of its link.
-abbrev pub identity_in : Result Mm MmRefusal → Option Identity
-identity_in (Ok (RegistrationRequest registration ksi identity capability told)) = Some identity
-identity_in (Ok (ServiceRequest ksi service_type identity told)) = Some identity
-identity_in (Ok (DeregistrationRequestUeOriginating switch_off ksi identity)) = Some identity
-identity_in read = None
+abbrev pub message_of : Result Mm MmRefusal → Option Mm
+message_of (Ok message) = Some message
+message_of (Err refusal) = None
 
-abbrev pub named_inside : Result Mm MmRefusal → Work → Option Subscriber
-named_inside read w = per (identity_in read) None (λ (identity : Identity). kept_for identity w)
+abbrev pub named_inside : Option Mm → Work → Option Subscriber
+named_inside (Some (RegistrationRequest registration ksi identity capability told)) w = kept_for identity w
+named_inside (Some (ServiceRequest ksi service_type identity told)) w = kept_for identity w
+named_inside (Some (DeregistrationRequestUeOriginating switch_off ksi identity)) w = kept_for identity w
+named_inside message w = None
 
-abbrev pub sender : ℕ → Result Mm MmRefusal → Work → Option Subscriber
-sender number read w = per (named_inside read w) (subscriber_of_link number w) (λ (s : Subscriber). Some s)
+abbrev pub sender : ℕ → Option Mm → Work → Option Subscriber
+sender number message w = per (named_inside message w) (subscriber_of_link number w) (λ (s : Subscriber). Some s)
 
 -- One that fails is discarded on a secure link. On any other a REGISTRATION REQUEST inside is taken as one that didn't pass, and a SERVICE
 -- REQUEST is rejected.
-abbrev pub failed_request : ℕ → Result Mm MmRefusal → Work → Work
-failed_request number (Ok (RegistrationRequest registration ksi identity capability told)) w =
+abbrev pub failed_request : ℕ → Option Mm → Work → Work
+failed_request number (Some (RegistrationRequest registration ksi identity capability told)) w =
     registration_requested number None registration ksi identity capability told w
-failed_request number (Ok (ServiceRequest ksi service_type identity told)) w = service_refused number w
-failed_request number read w = w
+failed_request number (Some (ServiceRequest ksi service_type identity told)) w = service_refused number w
+failed_request number message w = w
 
-abbrev pub failed : ℕ → Result Mm MmRefusal → Work → Work
-failed number read w = when (link_of number w).secure then w else failed_request number read w
+abbrev pub failed : ℕ → Option Mm → Work → Work
+failed number message w = when (link_of number w).secure then w else failed_request number message w
 
-abbrev pub check_of : Option Subscriber → ℕ → List ℕ → Option Check
+abbrev pub check_of : Option Subscriber → ℕ → List ℕ → Option Passage
 check_of s number octets = per s None (λ (x : Subscriber). checked_in_use number octets x)
 
-abbrev pub integrity_protected_read : Result Mm MmRefusal → ℕ → List ℕ → Work → Work
-integrity_protected_read read number octets w =
-    per (check_of (sender number read w) number octets) (failed number read w) (λ (c : Check). passed number c w)
+abbrev pub integrity_protected_with : Option Mm → ℕ → List ℕ → Work → Work
+integrity_protected_with message number octets w =
+    per (check_of (sender number message w) number octets) (failed number message w) (λ (p : Passage). passing number p w)
 
 unfoldable pub integrity_protected : ℕ → List ℕ → Work → Work
-integrity_protected number octets w = integrity_protected_read (mm_in (drop 7 octets)) number octets w
+integrity_protected number octets w = integrity_protected_with (message_of (mm_in (drop 7 octets))) number octets w
 
 -- header types 2 and 4
 unfoldable pub ciphered : ℕ → List ℕ → Work → Work
 ciphered number octets w =
-    per (check_of (subscriber_of_link number w) number octets) w (λ (c : Check). passed number c w)
+    per (check_of (subscriber_of_link number w) number octets) w (λ (p : Passage). passing number p w)
 
 unfoldable pub under_new_context : ℕ → List ℕ → Work → Work
 under_new_context number octets w =
     per (subscriber_of_link number w) w (λ (s : Subscriber).
-    per (checked_new number octets s) w (λ (c : Check). passed number c w))
+    per (checked_new number octets s) w (λ (p : Passage). passing number p w))
 
 -- 5GMM's extended protocol discriminator (clause 9.2), and the security header type
 abbrev pub is_mm : List ℕ → Bool

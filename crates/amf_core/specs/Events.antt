@@ -5,7 +5,7 @@ use Rattle.nas_timers.specs.declared.timer_id.TimerId.{TimerId}
 use Rattle.nas_timers.specs.declared.timer_id.TimerId.TheVariants.{T3510, T3516, T3517, T3521, T3522, T3550, T3560, T3580, T3581, T3582, T3591, T3592}
 use Rattle.amf_core.specs.Challenges.{challenge, challenge_open, challenge_put, ended, idle}
 use Rattle.amf_core.specs.Commands.{is_idle}
-use Rattle.amf_core.specs.Config.{AmfValues}
+use Rattle.amf_core.specs.declared.config.Configured.{Configured}
 use Rattle.amf_core.specs.Deregistration.{deregistered, deregistration_put, unregistered}
 use Rattle.amf_core.specs.Registration.{acceptance, is_on}
 use Rattle.amf_core.specs.State.{unused}

@@ -8,9 +8,8 @@ use Rattle.nas_security.specs.Counts.{with_next}
 use Rattle.nas_security.specs.Frame.{frame}
 use Rattle.nas_security.specs.declared.sends.Pass.{Pass}
 use Rattle.amf_core.specs.Keyed.{replaced}
-use Rattle.amf_core.specs.SecurityMode.{Commanding, commanding_of}
-use Rattle.amf_core.specs.State.{subscriber_in}
-use Rattle.amf_core.specs.Work.{is_same_subscriber}
+use Rattle.amf_core.specs.SecurityMode.{commanding_of}
+use Rattle.amf_core.specs.State.{is_same_subscriber, subscriber_in}
 use Rattle.amf_core.specs.declared.acts.Act.{Act}
 use Rattle.amf_core.specs.declared.acts.Act.TheVariants.{Say, Tell}
 use Rattle.amf_core.specs.declared.acts.Protection.TheVariants.{Plain, Ciphered, IntegrityProtectedWithNewContext}
@@ -20,6 +19,7 @@ use Rattle.amf_core.specs.declared.outs.AmfOut.TheVariants.{Send}
 use Rattle.amf_core.specs.declared.procedures.Challenging.{Challenging}
 use Rattle.amf_core.specs.declared.procedures.Phase.TheVariants.{Mode}
 use Rattle.amf_core.specs.declared.procedures.Procedure.TheVariants as procedures
+use Rattle.amf_core.specs.declared.security_mode.Commanding.{Commanding}
 use Rattle.amf_core.specs.declared.subscriber.Subscriber.{Subscriber}
 
 -- one more goes out; a message of the network is never fresh

@@ -1,4 +1,5 @@
 pub mod Acceptance
+pub mod Answers
 pub mod Authentication
 pub mod Challenges
 pub mod Checks
@@ -6,6 +7,7 @@ pub mod Commands
 pub mod Config
 pub mod Delivery
 pub mod Deregistration
+pub mod Drafts
 pub mod Events
 pub mod Framing
 pub mod Identification

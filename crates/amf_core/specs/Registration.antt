@@ -13,7 +13,7 @@ use Rattle.mm_messages.specs.declared.message.Mm.TheVariants.{IdentityRequest, R
 use Rattle.mm_messages.specs.declared.registration.RegistrationType.{RegistrationType}
 use Rattle.mm_messages.specs.declared.registration.RegistrationType.TheVariants.{Initial, Mobility, Periodic, Emergency}
 use Rattle.amf_core.specs.Challenges.{challenge}
-use Rattle.amf_core.specs.Config.{AmfValues}
+use Rattle.amf_core.specs.declared.config.Configured.{Configured}
 use Rattle.amf_core.specs.Naming.{keeper, named_by_suci}
 use Rattle.amf_core.specs.Requests.{is_same}
 use Rattle.amf_core.specs.Work.{answer, link_of, put_link, reject, say}
@@ -60,11 +60,11 @@ equal_acceptance r (procedures.Deregistering d) = None
 
 -- REGISTRATION ACCEPT: result 3GPP access (1), the tracking area, the subscribed slices and T3512; of an acceptance the new 5G-GUTI
 -- and the sessions that are told beside them
-abbrev pub accept : AmfValues → List Slice → Option Guti → Option (List Bool) → Mm
+abbrev pub accept : Configured → List Slice → Option Guti → Option (List Bool) → Mm
 accept config slices guti status =
     RegistrationAccept 1 guti (Some (one_area config.plmn config.tac)) (Some slices) status (Some config.t3512)
 
-abbrev pub acceptance : AmfValues → Accepting → Subscriber → Mm
+abbrev pub acceptance : Configured → Accepting → Subscriber → Mm
 acceptance config a s = accept config s.slices (Some a.guti) (Some a.status)
 
 abbrev pub accept_sent : Accepting → ℕ → Subscriber → Work → Work

@@ -26,8 +26,12 @@ is_option same None (Some other) = false
 is_option same (Some one) None = false
 is_option same (Some one) (Some other) = same one other
 
+-- two sets hold the same sessions
+abbrev pub are_same_sessions : List Bool → List Bool → Bool
+are_same_sessions one other = pointwise beq one other
+
 -- as values, in all their parts
 abbrev pub is_same : Request → Request → Bool
 is_same one other =
     registration_type_code one.registration == registration_type_code other.registration && one.ksi == other.ksi && is_named one.identity other.identity
-    && is_option bytes_eq one.capability other.capability && is_option (pointwise beq) one.status other.status
+    && is_option bytes_eq one.capability other.capability && is_option are_same_sessions one.status other.status

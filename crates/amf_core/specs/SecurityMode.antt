@@ -26,14 +26,11 @@ use Rattle.amf_core.specs.declared.procedures.Procedure.TheVariants as procedure
 use Rattle.amf_core.specs.declared.procedures.Purpose.{Purpose}
 use Rattle.amf_core.specs.declared.procedures.Purpose.TheVariants.{Registration, Command}
 use Rattle.amf_core.specs.declared.requests.Request.{Request}
+use Rattle.amf_core.specs.declared.security_mode.Commanding.{Commanding}
 use Rattle.amf_core.specs.declared.subscriber.Subscriber.{Subscriber}
 use Rattle.amf_core.specs.declared.work.Work.{Work}
 
--- a challenge whose context waits for the answer to its SECURITY MODE COMMAND
-pub record Commanding : Type 0 where
-  pub challenging : Challenging
-  pub context : SecurityContext
-
+-- The challenge whose context waits for the answer to its SECURITY MODE COMMAND.
 abbrev pub commanding_in : Phase → Challenging → Option Commanding
 commanding_in (Auth a) c = None
 commanding_in (Mode context) c = Some (record { challenging = c; context = context })

@@ -1,13 +1,15 @@
 -- What an AMF keeps between two events (TS 24.501 clause 5.1.3.2.3).
-use Rattle.std.specs.Prelude.{ℕ, zero, suc, ◌-◌, Bool, true, false, List, [], ◌∷◌, map, Option, Some, None, option_map, if◌then◌else◌}
+use Rattle.std.specs.Prelude.{ℕ, zero, suc, ◌==◌, Bool, true, false, List, [], ◌∷◌, map, Option, Some, None, option_map, if◌then◌else◌}
 use Rattle.std.specs.Str.{bytes_eq}
+use Rattle.nas_base.specs.Branches.{per}
 use Rattle.nas_base.specs.declared.state_words.AmfWord.{AmfWord}
 use Rattle.nas_base.specs.declared.state_words.AmfWord.TheVariants as words
 use Rattle.nas_elements.specs.Status.{no_session}
 use Rattle.nas_security.specs.declared.challenges.Challenge.{Challenge}
-use Rattle.amf_core.specs.Config.{AmfBeginnings, AmfValues}
+use Rattle.amf_core.specs.Config.{AmfBeginnings}
 use Rattle.amf_core.specs.Keyed.{found}
 use Rattle.amf_core.specs.declared.config.AmfSubscriber.{AmfSubscriber}
+use Rattle.amf_core.specs.declared.config.Configured.{Configured}
 use Rattle.amf_core.specs.declared.link.Link.{Link}
 use Rattle.amf_core.specs.declared.procedures.Challenging.{Challenging}
 use Rattle.amf_core.specs.declared.procedures.Phase.{Phase}
@@ -21,7 +23,7 @@ use Rattle.amf_core.specs.declared.view.NetView.{NetView}
 
 -- what was configured, the next 5G-TMSI, the records of the subscribers in the order of the configuration, and those of the links
 pub record AmfState : Type 0 where
-  pub config : AmfValues
+  pub config : Configured
   pub tmsi : ℕ
   pub subscribers : List Subscriber
   pub links : List Link
@@ -86,6 +88,19 @@ has_supi supi s = bytes_eq s.supi supi
 abbrev pub subscriber_in : List ℕ → List Subscriber → Option Subscriber
 subscriber_in supi subscribers = found (has_supi supi) subscribers
 
+-- the record of a link; two records with the same key are of the same subscriber, or of the same link
+abbrev pub has_number : ℕ → Link → Bool
+has_number number l = l.number == number
+
+abbrev pub link_in : ℕ → List Link → Link
+link_in number links = per (found (has_number number) links) (unused number) (λ (l : Link). l)
+
+abbrev pub is_same_subscriber : Subscriber → Subscriber → Bool
+is_same_subscriber s x = bytes_eq x.supi s.supi
+
+abbrev pub is_same_link : Link → Link → Bool
+is_same_link l x = x.number == l.number
+
 -- The challenge whose context waits for the answer to its command.
 abbrev pub pending_phase : Phase → Option Challenge
 pending_phase (phases.Auth a) = None
@@ -108,5 +123,8 @@ view_of s = record {
   completed = s.completed;
 }
 
+abbrev pub viewed : Option Subscriber → Option NetView
+viewed s = option_map view_of s
+
 abbrev pub view_in : List ℕ → AmfState → Option NetView
-view_in supi a = option_map view_of (subscriber_in supi a.subscribers)
+view_in supi a = viewed (subscriber_in supi a.subscribers)

@@ -1,6 +1,7 @@
 -- The transport of 5GSM messages (TS 24.501 clauses 5.4.5.2 and 5.4.5.3).
-use Rattle.std.specs.Prelude.{ℕ, Bool, ◌==◌, ◌&&◌, nat_le, List, Option, Some, None}
+use Rattle.std.specs.Prelude.{ℕ, ◌==◌, List, Option, Some, None}
 use Rattle.nas_base.specs.Branches.{per, when◌then◌else◌}
+use Rattle.nas_base.specs.Values.{psi_from}
 use Rattle.nas_elements.specs.declared.slice.Slice.{Slice}
 use Rattle.nas_security.specs.declared.challenges.Challenge.{Challenge}
 use Rattle.mm_messages.specs.declared.message.Mm.TheVariants.{DlNasTransport}
@@ -17,7 +18,7 @@ n1_sm = 1
 -- the session of a 5GSM message: 1 to 15 (TS 24.007 clause 11.2.3.1b)
 abbrev pub session_of : ℕ → Option ℕ → Option ℕ
 session_of container_type psi =
-    when container_type == n1_sm then per psi None (λ (n : ℕ). when nat_le 1 n && nat_le n 15 then Some n else None) else None
+    when container_type == n1_sm then per psi None psi_from else None
 
 -- UL NAS TRANSPORT: a 5GSM message of a session goes to the SMF. Anything else goes back (90, payload was not forwarded).
 abbrev pub not_forwarded : ℕ → ℕ → List ℕ → Option ℕ → Subscriber → Work → Work

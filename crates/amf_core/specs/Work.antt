@@ -1,13 +1,12 @@
 -- A step while it goes on: the moment and the random octets that it was given, what is kept, and what was said so far.
 use Rattle.std.specs.Prelude.{ℕ, Bool, true, false, ◌==◌, List, [], ◌∷◌, ◌++◌, Option, Some, None}
-use Rattle.std.specs.Str.{bytes_eq}
 use Rattle.nas_base.specs.Branches.{per, when◌then◌else◌}
 use Rattle.nas_timers.specs.Durations.{deadline_after, duration_of}
 use Rattle.nas_timers.specs.declared.timer_id.TimerId.{TimerId}
 use Rattle.mm_messages.specs.declared.message.Mm.{Mm}
 use Rattle.mm_messages.specs.declared.message.Mm.TheVariants.{FiveGmmStatus, RegistrationReject}
-use Rattle.amf_core.specs.Keyed.{found, replaced}
-use Rattle.amf_core.specs.State.{AmfState, has_supi, subscriber_in, unused}
+use Rattle.amf_core.specs.Keyed.{replaced}
+use Rattle.amf_core.specs.State.{is_same_link, is_same_subscriber, link_in, subscriber_in}
 use Rattle.amf_core.specs.declared.acts.Act.TheVariants.{Say, Tell}
 use Rattle.amf_core.specs.declared.acts.Protection.{Protection}
 use Rattle.amf_core.specs.declared.acts.Protection.TheVariants.{Plain, Ciphered}
@@ -22,24 +21,12 @@ use Rattle.amf_core.specs.declared.work.Work.{Work}
 abbrev pub subscriber : List ℕ → Work → Option Subscriber
 subscriber supi w = subscriber_in supi w.amf.subscribers
 
-abbrev pub is_same_subscriber : Subscriber → Subscriber → Bool
-is_same_subscriber s x = bytes_eq x.supi s.supi
-
 unfoldable pub put : Subscriber → Work → Work
 put s w = record w { amf = record w.amf { subscribers = replaced is_same_subscriber s w.amf.subscribers } }
 
 -- the record of a link, and another in its place
-abbrev pub has_number : ℕ → Link → Bool
-has_number number l = l.number == number
-
-abbrev pub link_in : ℕ → List Link → Link
-link_in number links = per (found (has_number number) links) (unused number) (λ (l : Link). l)
-
 abbrev pub link_of : ℕ → Work → Link
 link_of number w = link_in number w.amf.links
-
-abbrev pub is_same_link : Link → Link → Bool
-is_same_link l x = x.number == l.number
 
 unfoldable pub put_link : Link → Work → Work
 put_link l w = record w { amf = record w.amf { links = replaced is_same_link l w.amf.links } }
