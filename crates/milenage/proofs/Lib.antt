@@ -1,2 +1,3 @@
 pub mod ChallengeLemmas
+pub mod HomeLemmas
 pub mod OctetLemmas
