@@ -150,12 +150,11 @@ impl HomeList {
     }
 
     // The subscriber of this SUPI has this SQN_HE.
-    #[tactic(auto, using(crate::proofs::HomeLemmas::home_with_sqn))]
     pub(crate) fn set_sqn(&mut self, supi: &Supi, sqn: u64)
         requires { is_sqn sqn ≡ true }
         ensures { self.new ≡ with_sqn supi.now sqn self.old }
     {
-        set_sqn(&mut self.items, supi, sqn);
+        set_first(self.items.as_mut_slice(), supi, sqn);
     }
 }
 
@@ -174,11 +173,11 @@ fn copies(alloc: Global, subscribers: &[HomeSubscriber]) -> Result<Vec<HomeSubsc
 }
 
 // The first of these subscribers that has this SUPI has this SQN_HE.
-fn set_sqn(items: &mut Vec<HomeSubscriber>, supi: &Supi, sqn: u64)
+fn set_first(subscribers: &mut [HomeSubscriber], supi: &Supi, sqn: u64)
     requires { is_sqn sqn ≡ true }
-    ensures { items.new.items ≡ with_sqn supi.now sqn items.old.items }
+    ensures { subscribers.new ≡ with_sqn supi.now sqn subscribers.old }
 {
-    for subscriber in items.iter_mut() {
+    for subscriber in subscribers.iter_mut() {
         if subscriber.supi == *supi {
             subscriber.sqn = sqn;
             return;
