@@ -1,10 +1,17 @@
 -- The subscribers of a home network.
-use Rattle.std.proofs.Common.{◌≡◌, refl, ap, ap₂, ◌∙◌, sym, subst, ℕ, ◌<◌, ◌+◌, suc, Bool, true, false, not, ◌||◌, ◌&&◌, List, [], ◌∷◌, ◌++◌, length, take, drop, set, get_or, if◌then◌else◌, arith, Vec}
+use Rattle.std.proofs.Common.{◌≡◌, refl, ap, ap₂, ◌∙◌, sym, subst, ℕ, ◌<◌, ◌+◌, suc, Bool, true, false, not, ◌||◌, ◌&&◌, nat_le, List, [], ◌∷◌, ◌++◌, length, take, drop, set, get_or, if◌then◌else◌, arith, Vec}
+use Rattle.std.specs.List.{list_all}
 use Rattle.std.specs.Str.{bytes_eq}
 use Rattle.std.specs.Vec.{with_items}
 use Rattle.std.proofs.lemmas.Slice.Eq.{bytes_eq-Decides}
+use Rattle.std.proofs.lemmas.Bool.{and_from}
+use Rattle.std.proofs.lemmas.Bool.Decides.{nat_tests}
+use Rattle.std.proofs.lemmas.List.Folds.{list_all-append}
 use Rattle.std.proofs.lemmas.List.{drop-set, drop_more, length-append, take-append-drop, take-set, with_items_is}
-use Rattle.milenage.specs.Home.{HomeRecord, are_distinct, is_home, is_kept, with_sqn}
+use Rattle.milenage.specs.Home.{HomeRecord, are_distinct, is_home, is_kept, is_sqn, with_sqn}
+
+abbrev has_sqn : HomeRecord → Bool
+has_sqn r = is_sqn r.sqn
 
 length-with_sqn : (supi : List ℕ) (n : ℕ) (home : List HomeRecord) → length (with_sqn supi n home) ≡ length home
 length-with_sqn supi n [] = refl
@@ -31,15 +38,28 @@ are_distinct-with_sqn supi n (r ∷ home) = by_test (bytes_eq r.supi supi) (are_
   by_test true same = refl
   by_test false same = rw (is_kept-with_sqn supi r.supi n home, same) refl
 
-home_with_sqn : (supi : List ℕ) (n : ℕ) (home : List HomeRecord) → is_home home ≡ true → is_home (with_sqn supi n home) ≡ true
-home_with_sqn supi n home h = rw (length-with_sqn supi n home, are_distinct-with_sqn supi n home) h
+have_sqns-with_sqn : (supi : List ℕ) (n : ℕ) (home : List HomeRecord) → is_sqn n ≡ true → list_all has_sqn home ≡ true
+    → list_all has_sqn (with_sqn supi n home) ≡ true
+have_sqns-with_sqn supi n [] small h = refl
+have_sqns-with_sqn supi n (r ∷ home) small h =
+    by_test (bytes_eq r.supi supi) (and_from _ _ h) (have_sqns-with_sqn supi n home small (and_from _ _ h).1) where
+  by_test : (b : Bool) → (is_sqn r.sqn ≡ true) × (list_all has_sqn home ≡ true) → list_all has_sqn (with_sqn supi n home) ≡ true
+      → list_all has_sqn (if b then record r { sqn = n } ∷ home else r ∷ with_sqn supi n home) ≡ true
+  by_test true both rest = rw (small, both.1) refl
+  by_test false both rest = rw (both.0, rest) refl
+
+home_with_sqn : (supi : List ℕ) (n : ℕ) (home : List HomeRecord) → is_sqn n ≡ true → is_home home ≡ true → is_home (with_sqn supi n home) ≡ true
+home_with_sqn supi n home small h =
+    let first = and_from _ _ h in
+    rw (length-with_sqn supi n home, are_distinct-with_sqn supi n home, first.0, (and_from _ _ first.1).0,
+    have_sqns-with_sqn supi n home small (and_from _ _ first.1).1) refl
 
 -- the same of what a Vec has
-pub home_items : {Z : Type 0} (v : Vec HomeRecord Z) (supi : List ℕ) (n : ℕ) (given ws : List HomeRecord) → is_home v.items ≡ true → given ≡ v.items
+pub home_items : {Z : Type 0} (v : Vec HomeRecord Z) (supi : List ℕ) (n : ℕ) (given ws : List HomeRecord) → is_sqn n ≡ true → is_home v.items ≡ true → given ≡ v.items
     → ws ≡ with_sqn supi n given → is_home (with_items v ws).items ≡ true
-home_items v supi n given ws h same set_is =
+home_items v supi n given ws small h same set_is =
     let size : length ws ≡ v.len = ap length set_is ∙ length-with_sqn supi n given ∙ ap length same ∙ sym v.ok.0 in
-    subst (λ (home : List HomeRecord). is_home home ≡ true) (sym (with_items_is v ws size)) (rw (set_is, same) (home_with_sqn supi n v.items h))
+    subst (λ (home : List HomeRecord). is_home home ≡ true) (sym (with_items_is v ws size)) (rw (set_is, same) (home_with_sqn supi n v.items small h))
 
 -- one more, of a SUPI that none has
 bytes_eq-sym : (x y : List ℕ) → bytes_eq x y ≡ false → bytes_eq y x ≡ false
@@ -70,8 +90,11 @@ distinct_pushed r (s ∷ home) h new =
       rw (kept_pushed s.supi r home e (bytes_eq-sym s.supi r.supi same), rest h1 h2) refl
 
 pub home_pushed : (r : HomeRecord) (home : List HomeRecord) → is_home home ≡ true → is_kept r.supi home ≡ false → length home < 64
-    → is_home (home ++ r ∷ []) ≡ true
-home_pushed r home h new room = grind (arith, length-append home (r ∷ []), distinct_pushed r home)
+    → is_sqn r.sqn ≡ true → is_home (home ++ r ∷ []) ≡ true
+home_pushed r home h new room small =
+    let first = and_from _ _ h in
+    let short : nat_le (length (home ++ r ∷ [])) 64 ≡ true = grind (arith, nat_tests, length-append home (r ∷ [])) in
+    rw (short, distinct_pushed r home (and_from _ _ first.1).0 new, list_all-append has_sqn home (r ∷ []), (and_from _ _ first.1).1, small) refl
 
 -- SQN_HE is set at the first place that has the SUPI
 pub set_here : (supi : List ℕ) (n i : ℕ) (home : List HomeRecord) (r d : HomeRecord) → i < length home → r ≡ get_or home i d → bytes_eq r.supi supi ≡ true

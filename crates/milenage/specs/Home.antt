@@ -1,5 +1,6 @@
 -- What a home network keeps of its subscribers, and what it answers (TS 33.102 clauses 6.3.2 and 6.3.5).
 use Rattle.std.specs.Prelude.{ℕ, ◌+◌, ◌-◌, ◌^◌, Bool, false, true, not, nat_lt, nat_le, max, ◌&&◌, ◌||◌, List, [], ◌∷◌, length, Option, Some, None, Result, Ok, Err, if◌then◌else◌}
+use Rattle.std.specs.List.{list_all}
 use Rattle.std.specs.Str.{bytes_eq}
 use Rattle.nas_base.specs.Branches.{per, when◌then◌else◌}
 use Rattle.milenage.specs.Octets.{◌⊕◌, part}
@@ -77,10 +78,10 @@ abbrev pub are_distinct : List HomeRecord → Bool
 are_distinct [] = true
 are_distinct (r ∷ home) = not (is_kept r.supi home) && are_distinct home
 
--- what a home network keeps: at most 64 records, no two with one SUPI
-abbrev pub is_home : List HomeRecord → Bool
-is_home home = nat_le (length home) 64 && are_distinct home
-
 -- a sequence number has 48 bits
 abbrev pub is_sqn : ℕ → Bool
 is_sqn n = nat_lt n (2 ^ 48)
+
+-- what a home network keeps: at most 64 records, no two with one SUPI, each with a sequence number of 48 bits
+abbrev pub is_home : List HomeRecord → Bool
+is_home home = nat_le (length home) 64 && are_distinct home && list_all (λ (r : HomeRecord). is_sqn r.sqn) home
