@@ -4,7 +4,7 @@ use Rattle.std.specs.List.{list_all}
 use Rattle.std.specs.Str.{bytes_eq}
 use Rattle.std.specs.Vec.{with_items}
 use Rattle.std.proofs.lemmas.Slice.Eq.{bytes_eq-Decides}
-use Rattle.std.proofs.lemmas.Bool.{and_from}
+use Rattle.std.proofs.lemmas.Bool.{and_parts}
 use Rattle.std.proofs.lemmas.Bool.Decides.{nat_tests}
 use Rattle.std.proofs.lemmas.List.Folds.{list_all-append}
 use Rattle.std.proofs.lemmas.List.{drop-set, drop_more, length-append, take-append-drop, take-set, with_items_is}
@@ -42,17 +42,24 @@ have_sqns-with_sqn : (supi : List ℕ) (n : ℕ) (home : List HomeRecord) → is
     → list_all has_sqn (with_sqn supi n home) ≡ true
 have_sqns-with_sqn supi n [] small h = refl
 have_sqns-with_sqn supi n (r ∷ home) small h =
-    by_test (bytes_eq r.supi supi) (and_from _ _ h) (have_sqns-with_sqn supi n home small (and_from _ _ h).1) where
+    by_test (bytes_eq r.supi supi) (and_parts _ _ h) (have_sqns-with_sqn supi n home small (and_parts _ _ h).1) where
   by_test : (b : Bool) → (is_sqn r.sqn ≡ true) × (list_all has_sqn home ≡ true) → list_all has_sqn (with_sqn supi n home) ≡ true
       → list_all has_sqn (if b then record r { sqn = n } ∷ home else r ∷ with_sqn supi n home) ≡ true
   by_test true both rest = rw (small, both.1) refl
   by_test false both rest = rw (both.0, rest) refl
 
+-- the facts of a home, one by one
+pub home_parts : (home : List HomeRecord) → is_home home ≡ true
+    → (nat_le (length home) 64 ≡ true) × (are_distinct home ≡ true) × (list_all has_sqn home ≡ true)
+home_parts home h =
+    let outer = and_parts (nat_le (length home) 64 && are_distinct home) (list_all has_sqn home) h in
+    let inner = and_parts (nat_le (length home) 64) (are_distinct home) outer.0 in
+    (inner.0, inner.1, outer.1)
+
 home_with_sqn : (supi : List ℕ) (n : ℕ) (home : List HomeRecord) → is_sqn n ≡ true → is_home home ≡ true → is_home (with_sqn supi n home) ≡ true
 home_with_sqn supi n home small h =
-    let first = and_from _ _ h in
-    rw (length-with_sqn supi n home, are_distinct-with_sqn supi n home, first.0, (and_from _ _ first.1).0,
-    have_sqns-with_sqn supi n home small (and_from _ _ first.1).1) refl
+    let parts = home_parts home h in
+    rw (length-with_sqn supi n home, are_distinct-with_sqn supi n home, parts.0, parts.1, have_sqns-with_sqn supi n home small parts.2) refl
 
 -- the same of what a Vec has
 pub home_items : {Z : Type 0} (v : Vec HomeRecord Z) (supi : List ℕ) (n : ℕ) (given ws : List HomeRecord) → is_sqn n ≡ true → is_home v.items ≡ true → given ≡ v.items
@@ -92,9 +99,9 @@ distinct_pushed r (s ∷ home) h new =
 pub home_pushed : (r : HomeRecord) (home : List HomeRecord) → is_home home ≡ true → is_kept r.supi home ≡ false → length home < 64
     → is_sqn r.sqn ≡ true → is_home (home ++ r ∷ []) ≡ true
 home_pushed r home h new room small =
-    let first = and_from _ _ h in
+    let parts = home_parts home h in
     let short : nat_le (length (home ++ r ∷ [])) 64 ≡ true = grind (arith, nat_tests, length-append home (r ∷ [])) in
-    rw (short, distinct_pushed r home (and_from _ _ first.1).0 new, list_all-append has_sqn home (r ∷ []), (and_from _ _ first.1).1, small) refl
+    rw (short, distinct_pushed r home parts.1 new, list_all-append has_sqn home (r ∷ []), parts.2, small) refl
 
 -- SQN_HE is set at the first place that has the SUPI
 pub set_here : (supi : List ℕ) (n i : ℕ) (home : List HomeRecord) (r d : HomeRecord) → i < length home → r ≡ get_or home i d → bytes_eq r.supi supi ≡ true
