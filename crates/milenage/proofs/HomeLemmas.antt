@@ -43,10 +43,10 @@ have_sqns-with_sqn : (supi : List ℕ) (n : ℕ) (home : List HomeRecord) → is
 have_sqns-with_sqn supi n [] small h = refl
 have_sqns-with_sqn supi n (r ∷ home) small h =
     by_test (bytes_eq r.supi supi) (and_parts _ _ h) (have_sqns-with_sqn supi n home small (and_parts _ _ h).1) where
-  by_test : (b : Bool) → (is_sqn r.sqn ≡ true) × (list_all has_sqn home ≡ true) → list_all has_sqn (with_sqn supi n home) ≡ true
-      → list_all has_sqn (if b then record r { sqn = n } ∷ home else r ∷ with_sqn supi n home) ≡ true
-  by_test true both rest = rw (small, both.1) refl
-  by_test false both rest = rw (both.0, rest) refl
+      by_test : (b : Bool) → (is_sqn r.sqn ≡ true) × (list_all has_sqn home ≡ true) → list_all has_sqn (with_sqn supi n home) ≡ true
+          → list_all has_sqn (if b then record r { sqn = n } ∷ home else r ∷ with_sqn supi n home) ≡ true
+      by_test true both rest = rw (small, both.1) refl
+      by_test false both rest = rw (both.0, rest) refl
 
 -- the facts of a home, one by one
 pub home_parts : (home : List HomeRecord) → is_home home ≡ true
@@ -87,14 +87,14 @@ distinct_pushed r [] h new = refl
 distinct_pushed r (s ∷ home) h new =
     by_tests (bytes_eq s.supi r.supi) refl (is_kept s.supi home) refl h new
     (λ (d : are_distinct home ≡ true) (k : is_kept r.supi home ≡ false). distinct_pushed r home d k) where
-  by_tests : (same : Bool) → bytes_eq s.supi r.supi ≡ same → (kept : Bool) → is_kept s.supi home ≡ kept
-      → (not kept && are_distinct home) ≡ true → (same || is_kept r.supi home) ≡ false
-      → (are_distinct home ≡ true → is_kept r.supi home ≡ false → are_distinct (home ++ r ∷ []) ≡ true)
-      → (not (is_kept s.supi (home ++ r ∷ [])) && are_distinct (home ++ r ∷ [])) ≡ true
-  by_tests true same kept e h1 h2 rest = cc
-  by_tests false same true e h1 h2 rest = cc
-  by_tests false same false e h1 h2 rest =
-      rw (kept_pushed s.supi r home e (bytes_eq-sym s.supi r.supi same), rest h1 h2) refl
+      by_tests : (same : Bool) → bytes_eq s.supi r.supi ≡ same → (kept : Bool) → is_kept s.supi home ≡ kept
+          → (not kept && are_distinct home) ≡ true → (same || is_kept r.supi home) ≡ false
+          → (are_distinct home ≡ true → is_kept r.supi home ≡ false → are_distinct (home ++ r ∷ []) ≡ true)
+          → (not (is_kept s.supi (home ++ r ∷ [])) && are_distinct (home ++ r ∷ [])) ≡ true
+      by_tests true same kept e h1 h2 rest = cc
+      by_tests false same true e h1 h2 rest = cc
+      by_tests false same false e h1 h2 rest =
+          rw (kept_pushed s.supi r home e (bytes_eq-sym s.supi r.supi same), rest h1 h2) refl
 
 pub home_pushed : (r : HomeRecord) (home : List HomeRecord) → is_home home ≡ true → is_kept r.supi home ≡ false → length home < 64
     → is_sqn r.sqn ≡ true → is_home (home ++ r ∷ []) ≡ true

@@ -40,12 +40,12 @@ set_rises : (supi : List ℕ) (n : ℕ) (home : List HomeRecord) (r : HomeRecord
 set_rises supi n [] r h up = cc
 set_rises supi n (s ∷ home) r h up =
     by_test (bytes_eq s.supi supi) refl h (λ (rest : home_record supi home ≡ Some r). set_rises supi n home r rest up) where
-  by_test : (b : Bool) → bytes_eq s.supi supi ≡ b → (if b then Some s else home_record supi home) ≡ Some r
-      → (home_record supi home ≡ Some r → OnlyRises supi home (with_sqn supi n home))
-      → OnlyRises supi (s ∷ home) (if b then record s { sqn = n } ∷ home else s ∷ with_sqn supi n home)
-  by_test true is found rest =
-      ((refl, subst (λ (t : HomeRecord). t.sqn ≤ n) (sym (same_Some s r found)) up, λ (other : bytes_eq s.supi supi ≡ false). cc), all_stay supi home)
-  by_test false is found rest = ((refl, omega arith, λ (other : bytes_eq s.supi supi ≡ false). refl), rest found)
+      by_test : (b : Bool) → bytes_eq s.supi supi ≡ b → (if b then Some s else home_record supi home) ≡ Some r
+          → (home_record supi home ≡ Some r → OnlyRises supi home (with_sqn supi n home))
+          → OnlyRises supi (s ∷ home) (if b then record s { sqn = n } ∷ home else s ∷ with_sqn supi n home)
+      by_test true is found rest =
+          ((refl, subst (λ (t : HomeRecord). t.sqn ≤ n) (sym (same_Some s r found)) up, λ (other : bytes_eq s.supi supi ≡ false). cc), all_stay supi home)
+      by_test false is found rest = ((refl, omega arith, λ (other : bytes_eq s.supi supi ≡ false). refl), rest found)
 
 challenges_raise : (supi rand : List ℕ) (home : List HomeRecord) → OnlyRises supi home (challenged supi rand home)
 unfolding challenged chosen per
@@ -118,14 +118,16 @@ given : (supi rand : List ℕ) (home : List HomeRecord) (v : Vector) → challen
     → MatchOption (home_record supi home) ⊥ (λ r. IsGiven supi v r (challenged supi rand home))
 given supi rand home v e =
     by_record (home_record supi home) refl (gives_at rand (home_record supi home) v (sym (answers supi rand home) ∙ e)) where
-  by_record : (o : Option HomeRecord) → home_record supi home ≡ o → MatchOption o ⊥ (Gives rand v)
-      → MatchOption o ⊥ (λ r. IsGiven supi v r (challenged supi rand home))
-  by_record None is g = g
-  by_record (Some r) is g =
-      let number = number_given rand v r g in
-      let left = ltb-true r.sqn last_sqn g.0 in
-      (omega (arith, number), omega (arith, number, left),
-      rw (given_leaves supi rand home r is g.0, number) (record-with_sqn supi (r.sqn + 1) home r is))
+      by_record : (o : Option HomeRecord) → home_record supi home ≡ o → MatchOption o ⊥ (Gives rand v)
+          → MatchOption o ⊥ (λ r. IsGiven supi v r (challenged supi rand home))
+      by_record None is g = g
+      by_record (Some r) is g =
+          let number = number_given rand v r g in
+          let left = ltb-true r.sqn last_sqn g.0 in (
+            omega (arith, number),
+            omega (arith, number, left),
+            rw (given_leaves supi rand home r is g.0, number) (record-with_sqn supi (r.sqn + 1) home r is),
+          )
 
 -- SQN_HE is at least a number
 abbrev AtLeast : ℕ → Option HomeRecord → Type 0
@@ -138,12 +140,13 @@ stays_at_least supi other n [] (s ∷ new) p a = absurd p
 stays_at_least supi other n (r ∷ old) [] p a = absurd p
 stays_at_least supi other n (r ∷ old) (s ∷ new) p a =
     by_test (bytes_eq r.supi supi) refl a (λ (rest : AtLeast n (home_record supi old)). stays_at_least supi other n old new p.1 rest) where
-  same : (b : Bool) → bytes_eq r.supi supi ≡ b → bytes_eq s.supi supi ≡ b
-  same b is = ap (λ (t : HomeRecord). bytes_eq t.supi supi) p.0.0 ∙ is
-  by_test : (b : Bool) → bytes_eq r.supi supi ≡ b → AtLeast n (if b then Some r else home_record supi old)
-      → (AtLeast n (home_record supi old) → AtLeast n (home_record supi new)) → AtLeast n (home_record supi (s ∷ new))
-  by_test true is at rest = rw (same true is) (omega (arith, at, p.0.1))
-  by_test false is at rest = rw (same false is) (rest at)
+      same : (b : Bool) → bytes_eq r.supi supi ≡ b → bytes_eq s.supi supi ≡ b
+      same b is = ap (λ (t : HomeRecord). bytes_eq t.supi supi) p.0.0 ∙ is
+
+      by_test : (b : Bool) → bytes_eq r.supi supi ≡ b → AtLeast n (if b then Some r else home_record supi old)
+          → (AtLeast n (home_record supi old) → AtLeast n (home_record supi new)) → AtLeast n (home_record supi (s ∷ new))
+      by_test true is at rest = rw (same true is) (omega (arith, at, p.0.1))
+      by_test false is at rest = rw (same false is) (rest at)
 
 at_least_after : (supi : List ℕ) (n : ℕ) (calls : List HomeCall) (home : List HomeRecord) → AtLeast n (home_record supi home)
     → AtLeast n (home_record supi (after calls home))
@@ -179,10 +182,10 @@ sqn_within : (supi : List ℕ) (home : List HomeRecord) → list_all (λ (r : Ho
 sqn_within supi [] h = tt
 sqn_within supi (s ∷ home) h =
     by_test (bytes_eq s.supi supi) (ltb-true s.sqn (2 ^ 48) (and_parts _ _ h).0) (sqn_within supi home (and_parts _ _ h).1) where
-  by_test : (b : Bool) → s.sqn < 2 ^ 48 → MatchOption (home_record supi home) (Unit {0}) (λ (r : HomeRecord). r.sqn < 2 ^ 48)
-      → MatchOption (if b then Some s else home_record supi home) (Unit {0}) (λ (r : HomeRecord). r.sqn < 2 ^ 48)
-  by_test true small rest = small
-  by_test false small rest = rest
+      by_test : (b : Bool) → s.sqn < 2 ^ 48 → MatchOption (home_record supi home) (Unit {0}) (λ (r : HomeRecord). r.sqn < 2 ^ 48)
+          → MatchOption (if b then Some s else home_record supi home) (Unit {0}) (λ (r : HomeRecord). r.sqn < 2 ^ 48)
+      by_test true small rest = small
+      by_test false small rest = rest
 
 last_spent : (o : Option HomeRecord) (n : ℕ) → MatchOption o (Unit {0}) (λ (r : HomeRecord). r.sqn < 2 ^ 48)
     → MatchOption o ⊥ (λ (r : HomeRecord). (nat_lt r.sqn last_sqn ≡ false) × (r.sqn ≡ n)) → n ≡ 2 ^ 48 - 1
@@ -226,5 +229,5 @@ auts_is_right supi rand autn answer r sqn_ms home is opc_16 small e =
       right = opens_right supi rand answer r sqn_ms home is opens;
       told = told;
       next = λ (next : List ℕ). rw (answers supi next (resynced supi rand answer home), told)
-        (fresh next sqn_ms (record r { sqn = max r.sqn sqn_ms }) (omega arith));
+          (fresh next sqn_ms (record r { sqn = max r.sqn sqn_ms }) (omega arith));
     }

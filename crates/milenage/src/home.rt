@@ -21,9 +21,7 @@ pub enum HomeRefusal {
     /// The SUPI isn't kept.
     Unknown,
     /// SQN_HE is the last sequence number, 2^48 - 1.
-    SqnSpent {
-        sqn: u64,
-    },
+    SqnSpent { sqn: u64 },
 }
 
 /// Why an AUTS changes nothing.
@@ -32,10 +30,7 @@ pub enum ResyncRefusal {
     /// The SUPI isn't kept.
     Unknown,
     /// AUTS has another MAC-S than the one of the subscriber's keys.
-    AutsWrong {
-        want: [u8; 8],
-        got: [u8; 8],
-    },
+    AutsWrong { want: [u8; 8], got: [u8; 8] },
 }
 
 /// What a home network keeps of its subscribers: K, OPc, AMF field and SQN_HE of each SUPI.
@@ -97,13 +92,7 @@ impl Home {
             });
         }
         let sqn = subscriber.sqn + 1;
-        let vector = make_vector(
-            &subscriber.k,
-            &subscriber.opc,
-            rand,
-            sqn,
-            &subscriber.field,
-        );
+        let vector = make_vector(&subscriber.k, &subscriber.opc, rand, sqn, &subscriber.field);
         self.subscribers.set_sqn(supi, sqn);
         Ok(vector)
     }
