@@ -1,2 +1,4 @@
 pub mod ChallengeLemmas
+pub mod HomeLemmas
+pub mod HomeRises
 pub mod OctetLemmas

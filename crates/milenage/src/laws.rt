@@ -1,5 +1,6 @@
 //! What both ends know of each other, for all keys and challenges. These functions do nothing: their contracts are the laws.
 ghost use Rattle.std.specs.Prelude.{◌<◌, ◌^◌};
+ghost use Rattle.milenage.specs.HomeLaws.{AutsIsRight, CallsOnlyRaise, ChallengesRise};
 ghost use Rattle.milenage.specs.Laws.{AutsOpens, VectorIsTaken};
 
 /// A handset takes the vector of its own keys exactly where it is one for 5G and its sequence number is greater than the
@@ -20,4 +21,20 @@ pub fn vector_is_taken(
 pub fn auts_opens(k: &[u8; 16], opc: &[u8; 16], rand: &[u8; 16], autn: &[u8; 16], sqn_ms: u64)
     requires { sqn_ms < 2 ^ 48 }
     ensures { AutsOpens k.now opc.now rand.now autn.now sqn_ms }
+{}
+
+/// No call of a home network lowers an SQN_HE, and none changes anything else or another subscriber.
+pub fn calls_only_raise()
+    ensures { CallsOnlyRaise }
+{}
+
+/// A challenge that is given for a subscriber has a greater sequence number than SQN_HE, and so than each that was given before.
+pub fn challenges_rise()
+    ensures { ChallengesRise }
+{}
+
+/// An AUTS that a handset of the subscriber's keys answers is right, and the next challenge is fresh for that handset, unless no
+/// sequence number is left.
+pub fn auts_is_right()
+    ensures { AutsIsRight }
 {}
