@@ -12,9 +12,10 @@ use Rattle.mm_messages.specs.declared.registration.RegistrationType.{Registratio
 use Rattle.mm_messages.specs.declared.registration.RegistrationType.TheVariants.{Initial, Mobility, Periodic, Emergency}
 use Rattle.amf_core.specs.Challenges.{idle, stopped}
 use Rattle.amf_core.specs.declared.config.Configured.{Configured}
+use Rattle.amf_core.specs.Drafts.{with_next_tmsi}
 use Rattle.amf_core.specs.Naming.{is_any, is_guti}
 use Rattle.amf_core.specs.Registration.{accept_sent}
-use Rattle.amf_core.specs.Work.{answer_for, ask, put, start}
+use Rattle.amf_core.specs.Work.{answer_for, ask, config_of, put, start}
 use Rattle.amf_core.specs.declared.acceptance.Whole.{Whole}
 use Rattle.amf_core.specs.declared.outs.SmfAsk.TheVariants.{KeepOnly, ReleaseAll}
 use Rattle.amf_core.specs.declared.procedures.Accepting.{Accepting}
@@ -59,21 +60,24 @@ opened_acceptance a named challenge s = record s {
   completed = false;
 }
 
-abbrev pub with_next_tmsi : Work → Work
-with_next_tmsi w = record w { amf = record w.amf { tmsi = w.amf.tmsi + 1 } }
+abbrev pub tmsi_of : Work → ℕ
+tmsi_of w = w.amf.changes.tmsi
+
+abbrev pub tmsi_taken : Work → Work
+tmsi_taken w = record w { amf = with_next_tmsi w.amf }
 
 abbrev pub acceptance_put : ℕ → Accepting → Subscriber → Work → Work
 acceptance_put number a s w = start T3550 s (accept_sent a number s (put s w))
 
 abbrev pub offered : ℕ → Request → Whole → Challenge → Subscriber → Work → Work
 offered number r q challenge s w =
-    let a : Accepting = record { request = r; guti = new_guti w.amf.config w.amf.tmsi; status = told_sessions q s; sendings = 1 } in
-    acceptance_put number a (opened_acceptance a q.guti challenge s) (with_next_tmsi w)
+    let a : Accepting = record { request = r; guti = new_guti (config_of w) (tmsi_of w); status = told_sessions q s; sendings = 1 } in
+    acceptance_put number a (opened_acceptance a q.guti challenge s) (tmsi_taken w)
 
 -- The registration goes on under the context that has just been taken into use. Where no 5G-TMSI is left it is rejected (111).
 unfoldable pub registration_goes_on : ℕ → Request → Whole → SecurityContext → Subscriber → Work → Work
 registration_goes_on number r q context s w =
-    when nat_lt w.amf.tmsi (2 ^ 32) then offered number r q context.challenge s (released q s w)
+    when nat_lt (tmsi_of w) (2 ^ 32) then offered number r q context.challenge s (released q s w)
     else answer_for s number (RegistrationReject 111) (released q s w)
 
 -- REGISTRATION COMPLETE under the challenge that the 5G-GUTI was offered under: it is kept alone. The acceptance ends, if it is still

@@ -4,12 +4,12 @@ use Rattle.std.specs.Str.{bytes_eq}
 use Rattle.nas_base.specs.Branches.{per, when◌then◌else◌}
 use Rattle.key_chain.specs.Keys.{nas_keys}
 use Rattle.milenage.specs.Home.{resync_of, resynced}
-use Rattle.milenage.specs.declared.home.ResyncRefusal.{ResyncRefusal}
 use Rattle.nas_security.specs.Contexts.{SecurityContext}
 use Rattle.mm_messages.specs.declared.message.Mm.TheVariants.{AuthenticationReject}
 use Rattle.amf_core.specs.Challenges.{challenge, challenge_open, challenge_put, ended}
+use Rattle.amf_core.specs.Drafts.{is_right}
 use Rattle.amf_core.specs.Registration.{is_on}
-use Rattle.amf_core.specs.Work.{answer_for}
+use Rattle.amf_core.specs.Work.{answer_for, home_of, put_home}
 use Rattle.amf_core.specs.Answers.{AuthenticationValues}
 use Rattle.amf_core.specs.declared.authentication.Asking.{Asking}
 use Rattle.amf_core.specs.declared.procedures.Challenging.{Challenging}
@@ -74,15 +74,11 @@ abbrev pub challenged_again : Challenging → Subscriber → Work → Work
 challenged_again c s w = challenge c.purpose (next_link c.purpose c s) None s w
 
 -- an AUTS that is right brings SQN_HE up to SQN_MS
-abbrev pub is_right : {E : Type 0} → Result Unit E → Bool
-is_right (Ok done) = true
-is_right (Err refusal) = false
-
 abbrev pub resynchronised : List ℕ → Asking → Subscriber → Work → Work
 resynchronised auts o s w =
     let rand : List ℕ = o.auth.challenge.rand in
-    when is_right (resync_of s.supi rand auts w.home)
-    then challenged_again o.challenging s (record w { home = resynced s.supi rand auts w.home }) else w
+    when is_right (resync_of s.supi rand auts (home_of w))
+    then challenged_again o.challenging s (put_home (resynced s.supi rand auts (home_of w)) w) else w
 
 -- MAC failure (20) and non-5G authentication unacceptable (26) end the challenge; synch failure (21) and ngKSI already in use (71) are
 -- followed by another

@@ -11,7 +11,7 @@ use Rattle.nas_elements.specs.declared.asi.Asi.{Asi}
 use Rattle.nas_timers.specs.declared.timer_id.TimerId.TheVariants.{T3522, T3550, T3560}
 use Rattle.mm_messages.specs.declared.message.Mm.TheVariants.{AuthenticationRequest, SecurityModeCommand}
 use Rattle.amf_core.specs.declared.config.Configured.{Configured}
-use Rattle.amf_core.specs.Work.{by_link, link_of, put, put_link, reject, say, say_on, start, stop}
+use Rattle.amf_core.specs.Work.{by_link, config_of, home_of, link_of, put, put_home, put_link, reject, say, say_on, start, stop}
 use Rattle.amf_core.specs.declared.acts.Protection.TheVariants.{IntegrityProtectedWithNewContext}
 use Rattle.amf_core.specs.Answers.{AuthenticationValues}
 use Rattle.amf_core.specs.declared.procedures.Challenging.{Challenging}
@@ -117,7 +117,7 @@ begun_with a purpose link s w =
     challenge_put c (challenge_open c (record s { last_ksi = Some a.ksi })) (claimed link s.supi w)
 
 unfoldable pub challenge_begun : Purpose → Option ℕ → Vector → Subscriber → Work → Work
-challenge_begun purpose link v s w = begun_with (authentication w.amf.config v s) purpose link s w
+challenge_begun purpose link v s w = begun_with (authentication (config_of w) v s) purpose link s w
 
 -- Where no sequence number is left, none is open. A registration is then rejected (111, protocol error).
 abbrev pub challenge_refused : Purpose → Option ℕ → Work → Work
@@ -140,5 +140,5 @@ VectorFits (Err refusal) = Unit {0}
 -- A challenge starts, whatever was open ends.
 unfoldable pub challenge : Purpose → Option ℕ → Option (List ℕ) → Subscriber → Work → Work
 challenge purpose link capability s w =
-    by_vector (challenge_of s.supi w.rand w.home) purpose link capability s
-    (record (stopped s w) { home = challenged s.supi w.rand w.home })
+    by_vector (challenge_of s.supi w.rand (home_of w)) purpose link capability s
+    (put_home (challenged s.supi w.rand (home_of w)) (stopped s w))

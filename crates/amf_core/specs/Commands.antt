@@ -10,7 +10,7 @@ use Rattle.milenage.specs.declared.vector.Vector.{Vector}
 use Rattle.amf_core.specs.Challenges.{challenge}
 use Rattle.amf_core.specs.Deregistration.{deregistration_put}
 use Rattle.amf_core.specs.State.{word_of}
-use Rattle.amf_core.specs.Work.{subscriber}
+use Rattle.amf_core.specs.Work.{home_of, subscriber}
 use Rattle.amf_core.specs.declared.inputs.AmfRefusal.{AmfRefusal}
 use Rattle.amf_core.specs.declared.inputs.AmfRefusal.TheVariants.{UnknownSupi, WrongState, SqnSpent}
 use Rattle.amf_core.specs.declared.procedures.Procedure.{Procedure}
@@ -42,7 +42,7 @@ by_sqn (Err homes.Unknown) s w = Ok (challenge Command s.link None s w)
 by_sqn (Ok v) s w = Ok (challenge Command s.link None s w)
 
 abbrev pub authenticated : Subscriber → Work → Result Work AmfRefusal
-authenticated s w = when may_begin s then by_sqn (challenge_of s.supi w.rand w.home) s w else Err (WrongState (word_of s))
+authenticated s w = when may_begin s then by_sqn (challenge_of s.supi w.rand (home_of w)) s w else Err (WrongState (word_of s))
 
 unfoldable pub authenticate : List ℕ → Work → Result Work AmfRefusal
 authenticate supi w = per (subscriber supi w) (Err UnknownSupi) (λ (s : Subscriber). authenticated s w)

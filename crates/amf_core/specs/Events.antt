@@ -10,7 +10,7 @@ use Rattle.amf_core.specs.Deregistration.{deregistered, deregistration_put, unre
 use Rattle.amf_core.specs.Registration.{acceptance, is_on}
 use Rattle.amf_core.specs.State.{unused}
 use Rattle.amf_core.specs.Transport.{brought_down}
-use Rattle.amf_core.specs.Work.{ask, link_of, put, put_link, say_on, start, subscriber}
+use Rattle.amf_core.specs.Work.{ask, config_of, link_of, put, put_link, say_on, start, subscriber}
 use Rattle.amf_core.specs.declared.acts.Protection.TheVariants.{Ciphered}
 use Rattle.amf_core.specs.declared.link.Link.{Link}
 use Rattle.amf_core.specs.declared.outs.SmfAsk.TheVariants.{ReleaseAll}
@@ -40,7 +40,7 @@ abbrev pub acceptance_again : Accepting → Accepting
 acceptance_again a = record a { sendings = a.sendings + 1 }
 
 abbrev pub acceptance_resent : Accepting → Subscriber → Work → Work
-acceptance_resent a s w = say_on s.link (Ciphered s.supi) (acceptance w.amf.config a s) w
+acceptance_resent a s w = say_on s.link (Ciphered s.supi) (acceptance (config_of w) a s) w
 
 abbrev pub accepting_expired : Accepting → Subscriber → Work → Work
 accepting_expired a s w =

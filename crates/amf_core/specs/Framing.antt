@@ -7,9 +7,9 @@ use Rattle.nas_security.specs.Contexts.{SecurityContext}
 use Rattle.nas_security.specs.Counts.{with_next}
 use Rattle.nas_security.specs.Frame.{frame}
 use Rattle.nas_security.specs.declared.sends.Pass.{Pass}
-use Rattle.amf_core.specs.Keyed.{replaced}
+use Rattle.amf_core.specs.Drafts.{by_now, with_record}
 use Rattle.amf_core.specs.SecurityMode.{commanding_of}
-use Rattle.amf_core.specs.State.{is_same_subscriber, subscriber_in}
+use Rattle.amf_core.specs.State.{subscriber_in}
 use Rattle.amf_core.specs.declared.acts.Act.{Act}
 use Rattle.amf_core.specs.declared.acts.Act.TheVariants.{Say, Tell}
 use Rattle.amf_core.specs.declared.acts.Protection.TheVariants.{Plain, Ciphered, IntegrityProtectedWithNewContext}
@@ -29,8 +29,8 @@ framed_out out f = record f { outs = f.outs ++ out ∷ [] }
 abbrev pub sent : ℕ → List ℕ → Option Pass → Framed → Framed
 sent number octets pass f = framed_out (Send (record { link = number; fresh = false; octets = octets; pass = pass })) f
 
-abbrev pub with_record : Subscriber → Framed → Framed
-with_record s f = record f { amf = record f.amf { subscribers = replaced is_same_subscriber s f.amf.subscribers } }
+abbrev pub counted : Subscriber → Framed → Framed
+counted s f = record f { amf = with_record s f.amf }
 
 -- a message whose frame would have more than 4,096 octets isn't sent
 abbrev pub is_too_long : List ℕ → Bool
@@ -59,7 +59,7 @@ abbrev pub under_in_use : ℕ → List ℕ → SecurityContext → Subscriber �
 under_in_use number message context s f =
     when is_unsent message context then f
     else sent number (frame context Down context.down 2 message) (Some (pass_of context s))
-    (with_record (record s { in_use = Some (counted_down context) }) f)
+    (counted (record s { in_use = Some (counted_down context) }) f)
 
 abbrev pub ciphered_for : ℕ → List ℕ → Subscriber → Framed → Framed
 ciphered_for number message s f =
@@ -67,7 +67,7 @@ ciphered_for number message s f =
 
 unfoldable pub framed_ciphered : ℕ → List ℕ → List ℕ → Framed → Framed
 framed_ciphered number supi message f =
-    per (subscriber_in supi f.amf.subscribers) (framed_plain number message f) (λ (s : Subscriber). ciphered_for number message s f)
+    per (subscriber_in supi (by_now f.amf).subscribers) (framed_plain number message f) (λ (s : Subscriber). ciphered_for number message s f)
 
 -- header type 3, under the context that is commanded
 abbrev pub counted_command : Commanding → Challenging
@@ -77,7 +77,7 @@ abbrev pub under_new : ℕ → List ℕ → Commanding → Subscriber → Framed
 under_new number message o s f =
     when is_unsent message o.context then f
     else sent number (frame o.context Down o.context.down 3 message) (Some (pass_of o.context s))
-    (with_record (record s { procedure = procedures.Challenging (counted_command o) }) f)
+    (counted (record s { procedure = procedures.Challenging (counted_command o) }) f)
 
 abbrev pub commanded_for : ℕ → List ℕ → Subscriber → Framed → Framed
 commanded_for number message s f =
@@ -85,7 +85,7 @@ commanded_for number message s f =
 
 unfoldable pub framed_with_new_context : ℕ → List ℕ → List ℕ → Framed → Framed
 framed_with_new_context number supi message f =
-    per (subscriber_in supi f.amf.subscribers) f (λ (s : Subscriber). commanded_for number message s f)
+    per (subscriber_in supi (by_now f.amf).subscribers) f (λ (s : Subscriber). commanded_for number message s f)
 
 unfoldable pub framed : Act → Framed → Framed
 framed (Tell out) f = framed_out out f

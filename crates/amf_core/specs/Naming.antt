@@ -7,6 +7,7 @@ use Rattle.nas_elements.specs.declared.guti.Guti.{Guti}
 use Rattle.nas_elements.specs.declared.guti.Stmsi.{Stmsi}
 use Rattle.nas_elements.specs.declared.identity.Identity.{Identity}
 use Rattle.nas_elements.specs.declared.identity.Identity.TheVariants as identities
+use Rattle.amf_core.specs.Drafts.{by_now}
 use Rattle.amf_core.specs.Keyed.{found}
 use Rattle.amf_core.specs.Work.{subscriber}
 use Rattle.amf_core.specs.declared.subscriber.Subscriber.{Subscriber}
@@ -41,10 +42,10 @@ abbrev pub keeps_stmsi : Stmsi → Subscriber → Bool
 keeps_stmsi t s = is_any (is_short_for t) s.kept
 
 abbrev pub keeper : Guti → Work → Option Subscriber
-keeper g w = found (keeps_guti g) w.amf.subscribers
+keeper g w = found (keeps_guti g) (by_now w.amf).subscribers
 
 abbrev pub short_keeper : Stmsi → Work → Option Subscriber
-short_keeper t w = found (keeps_stmsi t) w.amf.subscribers
+short_keeper t w = found (keeps_stmsi t) (by_now w.amf).subscribers
 
 -- for whom the identity of a request is kept
 abbrev pub kept_for : Identity → Work → Option Subscriber

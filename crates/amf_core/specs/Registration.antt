@@ -16,7 +16,7 @@ use Rattle.amf_core.specs.Challenges.{challenge}
 use Rattle.amf_core.specs.declared.config.Configured.{Configured}
 use Rattle.amf_core.specs.Naming.{keeper, named_by_suci}
 use Rattle.amf_core.specs.Requests.{is_same}
-use Rattle.amf_core.specs.Work.{answer, link_of, put_link, reject, say}
+use Rattle.amf_core.specs.Work.{answer, config_of, link_of, put_link, reject, say}
 use Rattle.amf_core.specs.declared.acts.Protection.TheVariants.{Ciphered}
 use Rattle.amf_core.specs.declared.procedures.Accepting.{Accepting}
 use Rattle.amf_core.specs.declared.procedures.Challenging.{Challenging}
@@ -68,10 +68,10 @@ abbrev pub acceptance : Configured → Accepting → Subscriber → Mm
 acceptance config a s = accept config s.slices (Some a.guti) (Some a.status)
 
 abbrev pub accept_sent : Accepting → ℕ → Subscriber → Work → Work
-accept_sent a number s w = say number (Ciphered s.supi) (acceptance w.amf.config a s) w
+accept_sent a number s w = say number (Ciphered s.supi) (acceptance (config_of w) a s) w
 
 abbrev pub periodic_accepted : ℕ → Subscriber → Work → Work
-periodic_accepted number s w = say number (Ciphered s.supi) (accept w.amf.config s.slices None None) w
+periodic_accepted number s w = say number (Ciphered s.supi) (accept (config_of w) s.slices None None) w
 
 -- A periodic request is granted at once where it passed under a context of the subscriber that it names, who is registered.
 abbrev pub is_periodic : RegistrationType → Bool

@@ -3,13 +3,15 @@ use Rattle.std.specs.Prelude.{ℕ, Bool, true, false, ◌==◌, List, [], ◌∷
 use Rattle.nas_base.specs.Branches.{per, when◌then◌else◌}
 use Rattle.nas_timers.specs.Durations.{deadline_after, duration_of}
 use Rattle.nas_timers.specs.declared.timer_id.TimerId.{TimerId}
+use Rattle.milenage.specs.Home.{HomeRecord}
 use Rattle.mm_messages.specs.declared.message.Mm.{Mm}
 use Rattle.mm_messages.specs.declared.message.Mm.TheVariants.{FiveGmmStatus, RegistrationReject}
-use Rattle.amf_core.specs.Keyed.{replaced}
-use Rattle.amf_core.specs.State.{is_same_link, is_same_subscriber, link_in, subscriber_in}
+use Rattle.amf_core.specs.Drafts.{by_now, home_by_now, with_home, with_link_record, with_record}
+use Rattle.amf_core.specs.State.{link_in, subscriber_in}
 use Rattle.amf_core.specs.declared.acts.Act.TheVariants.{Say, Tell}
 use Rattle.amf_core.specs.declared.acts.Protection.{Protection}
 use Rattle.amf_core.specs.declared.acts.Protection.TheVariants.{Plain, Ciphered}
+use Rattle.amf_core.specs.declared.config.Configured.{Configured}
 use Rattle.amf_core.specs.declared.link.Link.{Link}
 use Rattle.amf_core.specs.declared.outs.AmfOut.{AmfOut}
 use Rattle.amf_core.specs.declared.outs.AmfOut.TheVariants.{Smf, Start, Stop}
@@ -19,17 +21,24 @@ use Rattle.amf_core.specs.declared.work.Work.{Work}
 
 -- the record of a subscriber, as it is by now, and another in its place
 abbrev pub subscriber : List ℕ → Work → Option Subscriber
-subscriber supi w = subscriber_in supi w.amf.subscribers
+subscriber supi w = subscriber_in supi (by_now w.amf).subscribers
 
 unfoldable pub put : Subscriber → Work → Work
-put s w = record w { amf = record w.amf { subscribers = replaced is_same_subscriber s w.amf.subscribers } }
+put s w = record w { amf = with_record s w.amf }
 
 -- the record of a link, and another in its place
 abbrev pub link_of : ℕ → Work → Link
-link_of number w = link_in number w.amf.links
+link_of number w = link_in number (by_now w.amf).links
 
 unfoldable pub put_link : Link → Work → Work
-put_link l w = record w { amf = record w.amf { links = replaced is_same_link l w.amf.links } }
+put_link l w = record w { amf = with_link_record l w.amf }
+
+-- the home network, as it is by now, and as it is from now on
+abbrev pub home_of : Work → List HomeRecord
+home_of w = home_by_now w.amf
+
+abbrev pub put_home : List HomeRecord → Work → Work
+put_home home w = record w { amf = with_home home w.amf }
 
 -- the subscriber that a link last passed or challenged
 abbrev pub subscriber_of_link : ℕ → Work → Option Subscriber
@@ -68,9 +77,13 @@ reject number cause w = answer number (RegistrationReject cause) w
 abbrev pub answer_for : Subscriber → ℕ → Mm → Work → Work
 answer_for s number message w = say number (by_link (link_of number w) s.supi) message w
 
+-- what was configured
+abbrev pub config_of : Work → Configured
+config_of w = w.amf.before.amf.config
+
 -- a timer of a subscriber is started for its duration, or stopped
 abbrev pub start : TimerId → Subscriber → Work → Work
-start id s w = tell (Start s.supi id (deadline_after w.moment (duration_of id w.amf.config.durations))) w
+start id s w = tell (Start s.supi id (deadline_after w.moment (duration_of id (config_of w).durations))) w
 
 abbrev pub stop : TimerId → Subscriber → Work → Work
 stop id s w = tell (Stop s.supi id) w

@@ -154,7 +154,7 @@ impl<'a> Work<'a> {
         challenge: Challenge,
         s: Subscriber,
     ) -> Result<(), Memory>
-        requires { self.old.amf.tmsi < 2 ^ 32 }
+        requires { self.old.amf.changes.tmsi < 2 ^ 32 }
         ensures { OnOk result (self.new ≡ offered number request.now whole.now challenge s self.old) }
     {
         let accepting = Accepting {

@@ -156,7 +156,7 @@ impl<'a> Work<'a> {
         ensures { OnOk result (self.new ≡ resynchronised auts.now asking.now s self.old) }
     {
         let rand = asking.auth.challenge.rand;
-        if self.home.resync(alloc, &s.supi, &rand, auts)? {
+        if self.amf.resync(alloc, &s.supi, &rand, auts)? {
             return self.challenge_again(alloc, &asking.challenging, s);
         }
         Ok(())

@@ -328,7 +328,7 @@ impl<'a> Work<'a> {
     {
         self.stop_open(&s)?;
         let rand = self.rand;
-        let answer = self.home.challenge(alloc, &s.supi, &rand)?;
+        let answer = self.amf.challenge(alloc, &s.supi, &rand)?;
         self.by_vector(answer, purpose, link, capability, s)
     }
 }

@@ -48,7 +48,7 @@ impl<'a> Work<'a> {
         }
         unrefused(self.stop_open(&s))?;
         let rand = self.rand;
-        let answer = match self.home.challenge(alloc, &s.supi, &rand) {
+        let answer = match self.amf.challenge(alloc, &s.supi, &rand) {
             Ok(answer) => answer,
             Err(Memory) => return Err(AmfRefusal::Memory),
         };

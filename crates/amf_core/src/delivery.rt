@@ -1,7 +1,7 @@
 //! What an AMF makes of octets that come up a link.
 ghost use Rattle.std.specs.Prelude.{◌≡◌, [], drop, slice_index_or, IfOk, Ok, OnOk, option_map};
 ghost use Rattle.mm_messages.specs.Messages.{mm_in};
-ghost use Rattle.amf_core.specs.Delivery.{action, by_table, check_of, ciphered, failed, freshened, integrity_protected, is_permitted_type, message_of, named_inside, passed, plain, received, sender, taken, taken_plain, under_new_context};
+ghost use Rattle.amf_core.specs.Delivery.{action, brought_up, by_table, check_of, ciphered, failed, freshened, integrity_protected, is_permitted_type, message_of, named_inside, passed, plain, received, sender, taken, taken_plain, under_new_context};
 
 use crate::checks::{Check, checked_in_use, checked_new};
 use crate::work::Work;
@@ -86,9 +86,23 @@ fn check_of(
 }
 
 impl<'a> Work<'a> {
-    /// Octets came up a link.
+    /// Octets came up a link; `fresh` where they are the first of a connection.
+    pub fn bring_up(
+        &mut self,
+        alloc: Global,
+        number: u16,
+        fresh: bool,
+        octets: &[u8],
+    ) -> Result<(), Memory>
+        ensures { OnOk result (self.new ≡ brought_up number fresh octets.now self.old) }
+    {
+        self.freshen(fresh, number)?;
+        self.received(alloc, number, octets)
+    }
+
+    // Octets on their link.
     #[tactic(auto, unfolding(crate::specs::Delivery::received, nas_base::specs::Branches::chosen))]
-    pub fn received(&mut self, alloc: Global, number: u16, octets: &[u8]) -> Result<(), Memory>
+    fn received(&mut self, alloc: Global, number: u16, octets: &[u8]) -> Result<(), Memory>
         ensures { OnOk result (self.new ≡ received number octets.now self.old) }
     {
         if octet_at(octets, 0) != EPD_5GMM || octets.len() > LONGEST {
@@ -103,9 +117,9 @@ impl<'a> Work<'a> {
         }
     }
 
-    /// The first message of a connection finds its link not secure.
+    // The first message of a connection finds its link not secure.
     #[tactic(auto, unfolding(crate::specs::Delivery::freshened, nas_base::specs::Branches::chosen))]
-    pub fn freshen(&mut self, fresh: bool, number: u16) -> Result<(), Memory>
+    fn freshen(&mut self, fresh: bool, number: u16) -> Result<(), Memory>
         ensures { OnOk result (self.new ≡ freshened fresh number self.old) }
     {
         if !fresh {

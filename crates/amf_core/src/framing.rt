@@ -1,7 +1,7 @@
 //! How what is said becomes octets: spelled, and protected under the contexts of the subscribers.
 ghost use Rattle.std.specs.Prelude.{◌≡◌, ◌≤◌, [], OnOk, length};
 ghost use Rattle.mm_messages.specs.Messages.{spelling};
-ghost use Rattle.amf_core.specs.Framing.{IsSpelled, ciphered_for, commanded_for, framed, framed_all, framed_ciphered, framed_plain, framed_with_new_context, sent, under_in_use, under_new, with_record};
+ghost use Rattle.amf_core.specs.Framing.{IsSpelled, ciphered_for, commanded_for, framed, framed_all, framed_ciphered, framed_plain, framed_with_new_context, sent, under_in_use, under_new};
 
 use crate::acts::{Act, Acts, Protection};
 use crate::draft::Draft;

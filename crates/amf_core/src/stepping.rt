@@ -1,26 +1,24 @@
 //! One step of an AMF.
-ghost use Rattle.std.specs.Prelude.{◌≡◌, IfOk};
-ghost use Rattle.amf_core.specs.Drafts.{changed, home_now};
+ghost use Rattle.std.specs.Prelude.{◌≡◌, OnOk};
+ghost use Rattle.amf_core.specs.Events.{carried_down};
 ghost use Rattle.amf_core.specs.Outcome.{Works};
-ghost use Rattle.amf_core.specs.Step.{Steps, ended, started, step_of, worked};
+ghost use Rattle.amf_core.specs.Step.{Follows, Leaves, Steps, step_of, worked};
 
 use crate::acts::Acts;
 use crate::commands::unrefused;
 use crate::draft::{Changes, Draft};
 use crate::framing::Framed;
-use crate::home_draft::HomeDraft;
 use crate::work::Work;
 use crate::{Amf, AmfInput, AmfOuts, AmfRefusal};
 use milenage::Home;
-use nas_base::{Memory, Moment, Octets, OctetsRefusal};
+use nas_base::{Memory, Moment, Octets, Psi, Supi};
 use std::alloc::Global;
 
-// What a step leaves.
+/// What a step changed, and what goes out.
 #[derive(Drop)]
-struct Done {
-    changes: Changes,
-    home: Option<Home>,
-    outs: AmfOuts,
+pub struct Done {
+    pub changes: Changes,
+    pub outs: AmfOuts,
 }
 
 /// One step of an AMF: the row of an input at a moment; a challenge that starts in it has this RAND. `home` keeps each SUPI that `amf` keeps
@@ -41,15 +39,16 @@ pub fn step(
 ) -> Result<AmfOuts, AmfRefusal>
     ensures { Steps amf.old amf.new home.old home.new result (step_of amf.old home.old now rand.now input.now) }
 {
-    let done = worked(alloc, amf, home, now, rand, input)?;
-    amf.take_over(done.changes);
-    if let Some(after) = done.home {
+    let done = worked_on(alloc, amf, home, now, rand, input)?;
+    amf.take_over(&done.changes);
+    if let Some(after) = done.changes.home {
         *home = after;
     }
     Ok(done.outs)
 }
 
 // The row of an input, and what it leaves.
+#[tactic(auto, unfolding(crate::specs::Step::ended))]
 fn worked_on(
     alloc: Global,
     amf: &Amf,
@@ -63,8 +62,7 @@ fn worked_on(
     let mut work = Work {
         moment: now,
         rand: *rand,
-        amf: Draft::new(alloc, amf),
-        home: HomeDraft::new(home),
+        amf: Draft::new(alloc, amf, home),
         acts: Acts::new(alloc),
     };
     work.by_input(alloc, input)?;
@@ -114,9 +112,8 @@ impl<'a> Work<'a> {
     }
 
     // What was said is sent, and what is left is what changed.
-    #[tactic(auto, unfolding(crate::specs::Step::ended))]
     fn end(self, alloc: Global) -> Result<Done, Memory>
-        ensures { IfOk result (λ done. Leaves self done) }
+        ensures { Leaves self result }
     {
         let mut framing = Framed {
             amf: self.amf,
@@ -124,8 +121,7 @@ impl<'a> Work<'a> {
         };
         framing.all(alloc, self.acts)?;
         Ok(Done {
-            changes: framing.amf.into_changes(),
-            home: self.home.into_after(),
+            changes: framing.amf.changes,
             outs: framing.outs,
         })
     }

@@ -4,7 +4,6 @@ ghost use Rattle.amf_core.specs.Work.{answer, answer_for, ask, by_link, own_prot
 
 use crate::acts::{Act, Acts, Protection};
 use crate::draft::Draft;
-use crate::home_draft::HomeDraft;
 use crate::{AmfOut, Link, SmfAsk, SmfCall, Subscriber};
 use mm_messages::Mm;
 use nas_base::{Memory, Moment, Supi};
@@ -16,8 +15,8 @@ pub struct Work<'a> {
     pub moment: Moment,
     /// The RAND of a challenge that starts in this step.
     pub rand: [u8; 16],
+    /// What is kept, and what changed of it so far.
     pub amf: Draft<'a>,
-    pub home: HomeDraft<'a>,
     pub acts: Acts,
 }
 

@@ -1,0 +1,2 @@
+-- Nothing is written of octets that don't pass.
+use Rattle.std.proofs.Common.{◌≡◌, ℕ, List, [], refl}
