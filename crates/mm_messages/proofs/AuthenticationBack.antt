@@ -16,7 +16,7 @@ use Rattle.nas_layout.specs.Rows.{fixed_row, tlv_row}
 use Rattle.mm_messages.specs.declared.message.Mm.TheVariants.{AuthenticationFailure, AuthenticationRequest, AuthenticationResponse}
 
 abbrev request_rows : List RowParts
-request_rows = fixed_row 0x21 17 ∷ tlv_row 0x20 ∷ []
+request_rows = fixed_row 0x21 16 ∷ tlv_row 0x20 ∷ []
 
 abbrev request_pieces : Option (List ℕ) → Option (List ℕ) → List Piece
 request_pieces rand autn = fixed 0x21 16 rand ∷ short 0x20 autn ∷ []

@@ -18,7 +18,7 @@ use Rattle.nas_layout.specs.Rows.{fixed_row, half_row, tlve_row}
 use Rattle.mm_messages.specs.declared.message.Mm.TheVariants.{ConfigurationUpdateCommand}
 
 abbrev rows : List RowParts
-rows = half_row 0xd0 ∷ tlve_row 0x77 ∷ fixed_row 0x46 2 ∷ fixed_row 0x47 8 ∷ []
+rows = half_row 0xd0 ∷ tlve_row 0x77 ∷ fixed_row 0x46 1 ∷ fixed_row 0x47 7 ∷ []
 
 abbrev pieces : Option ℕ → Option Guti → List Piece
 pieces indication guti = half 0xd0 indication ∷ long 0x77 (option_map guti_octets guti) ∷ []

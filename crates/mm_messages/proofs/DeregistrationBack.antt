@@ -46,7 +46,7 @@ request_of_handset_back switch_off ksi identity range size named =
     })
 
 abbrev rows : List RowParts
-rows = fixed_row 0x58 2 ∷ []
+rows = fixed_row 0x58 1 ∷ []
 
 cause_back : (cause : Option ℕ) → known 0x58 octet_in (firsts rows (elements_in rows (optional_tv 0x58 (option_map one_octet cause)))) ≡ cause
 cause_back cause =

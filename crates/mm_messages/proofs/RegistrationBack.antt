@@ -27,7 +27,7 @@ use Rattle.mm_messages.specs.declared.message.Mm.TheVariants.{RegistrationAccept
 use Rattle.mm_messages.specs.declared.registration.RegistrationType.{RegistrationType}
 
 abbrev request_rows : List RowParts
-request_rows = tlv_row 0x2e ∷ tlv_row 0x50 ∷ fixed_row 0x52 7 ∷ []
+request_rows = tlv_row 0x2e ∷ tlv_row 0x50 ∷ fixed_row 0x52 6 ∷ []
 
 abbrev request_pieces : Option (List ℕ) → Option (List Bool) → List Piece
 request_pieces capability status = short 0x2e capability ∷ short 0x50 (option_map status_octets status) ∷ []

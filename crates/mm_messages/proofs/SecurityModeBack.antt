@@ -20,7 +20,7 @@ use Rattle.mm_messages.specs.SecurityMode.{security_mode_command, security_mode_
 use Rattle.mm_messages.specs.declared.message.Mm.TheVariants.{SecurityModeCommand, SecurityModeComplete}
 
 abbrev command_rows : List RowParts
-command_rows = tlv_row 0x36 ∷ fixed_row 0x57 2 ∷ []
+command_rows = tlv_row 0x36 ∷ fixed_row 0x57 1 ∷ []
 
 pub security_mode_command_back : (algs : Algorithms) (ksi : ℕ) (capability : List ℕ) (asi : Option Asi) → algs_in (algs_octets algs) ≡ Some algs → ksi < 8
     → length capability ≤ 8 → capability_in capability ≡ Some capability → read_as asi_in (option_map asi_octets asi) ≡ asi

@@ -21,7 +21,7 @@ use Rattle.mm_messages.specs.Transport.{dl_nas_transport, dl_nas_transport_layou
 use Rattle.mm_messages.specs.declared.message.Mm.TheVariants.{DlNasTransport, UlNasTransport}
 
 abbrev ul_rows : List RowParts
-ul_rows = fixed_row 0x12 2 ∷ half_row 0x80 ∷ tlv_row 0x22 ∷ tlv_row 0x25 ∷ fixed_row 0x59 2 ∷ []
+ul_rows = fixed_row 0x12 1 ∷ half_row 0x80 ∷ tlv_row 0x22 ∷ tlv_row 0x25 ∷ fixed_row 0x59 1 ∷ []
 
 abbrev ul_pieces : Option ℕ → Option ℕ → Option Slice → Option (List ℕ) → List Piece
 ul_pieces psi request_type slice dnn =
@@ -58,7 +58,7 @@ ul_nas_transport_back container_type container psi request_type slice dnn range 
     })
 
 abbrev dl_rows : List RowParts
-dl_rows = fixed_row 0x12 2 ∷ fixed_row 0x58 2 ∷ []
+dl_rows = fixed_row 0x12 1 ∷ fixed_row 0x58 1 ∷ []
 
 abbrev dl_pieces : Option ℕ → Option ℕ → List Piece
 dl_pieces psi cause = fixed 0x12 1 (option_map one_octet psi) ∷ fixed 0x58 1 (option_map one_octet cause) ∷ []

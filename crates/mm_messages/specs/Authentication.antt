@@ -16,7 +16,7 @@ unfoldable pub authentication_request_layout : Layout Mm
 authentication_request_layout =
     part (V 1) octet_in (λ first.
     part Lv abba_in (λ abba.
-    elements (fixed_row 0x21 17 ∷ tlv_row 0x20 ∷ []) (λ es.
+    elements (fixed_row 0x21 16 ∷ tlv_row 0x20 ∷ []) (λ es.
     AuthenticationRequest (ksi_of (low_half first)) abba (known 0x21 (exactly 16) es) (known 0x20 (exactly 16) es))))
 
 unfoldable pub authentication_request : ℕ → List ℕ → Option (List ℕ) → Option (List ℕ) → List ℕ

@@ -14,7 +14,7 @@ use Rattle.mm_messages.specs.declared.message.Mm.TheVariants.{ConfigurationUpdat
 -- passed over.
 unfoldable pub configuration_update_command_layout : Layout Mm
 configuration_update_command_layout =
-    elements (half_row 0xd0 ∷ tlve_row 0x77 ∷ fixed_row 0x46 2 ∷ fixed_row 0x47 8 ∷ []) (λ es.
+    elements (half_row 0xd0 ∷ tlve_row 0x77 ∷ fixed_row 0x46 1 ∷ fixed_row 0x47 7 ∷ []) (λ es.
     ConfigurationUpdateCommand (known 0xd0 half_in es) (known 0x77 guti_in es))
 
 unfoldable pub configuration_update_command : Option ℕ → Option Guti → List ℕ

@@ -32,7 +32,7 @@ deregistration_accept_ue_originating_layout = nothing_more DeregistrationAcceptU
 unfoldable pub deregistration_request_ue_terminated_layout : Layout Mm
 deregistration_request_ue_terminated_layout =
     part (V 1) octet_in (λ first.
-    elements (fixed_row 0x58 2 ∷ []) (λ es.
+    elements (fixed_row 0x58 1 ∷ []) (λ es.
     DeregistrationRequestUeTerminated (is_switch_off first) (known 0x58 octet_in es)))
 
 unfoldable pub deregistration_request_ue_terminated : Bool → Option ℕ → List ℕ

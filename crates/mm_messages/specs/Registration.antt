@@ -28,7 +28,7 @@ unfoldable pub registration_request_layout : Layout Mm
 registration_request_layout =
     part (V 1) octet_in (λ first.
     part Lve identity_in (λ identity.
-    elements (tlv_row 0x2e ∷ tlv_row 0x50 ∷ fixed_row 0x52 7 ∷ []) (λ es.
+    elements (tlv_row 0x2e ∷ tlv_row 0x50 ∷ fixed_row 0x52 6 ∷ []) (λ es.
     RegistrationRequest (registration_type_of (low_half first)) (ksi_of (high_half first)) identity (known 0x2e capability_in es) (known 0x50 status_in es))))
 
 unfoldable pub registration_request : RegistrationType → ℕ → Identity → Option (List ℕ) → Option (List Bool) → List ℕ

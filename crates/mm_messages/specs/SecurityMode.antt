@@ -21,7 +21,7 @@ security_mode_command_layout =
     part (V 1) algs_in (λ algs.
     part (V 1) octet_in (λ second.
     part Lv capability_in (λ capability.
-    elements (tlv_row 0x36 ∷ fixed_row 0x57 2 ∷ []) (λ es.
+    elements (tlv_row 0x36 ∷ fixed_row 0x57 1 ∷ []) (λ es.
     SecurityModeCommand algs (ksi_of (low_half second)) capability (known 0x36 asi_in es)))))
 
 unfoldable pub security_mode_command : Algorithms → ℕ → List ℕ → Option Asi → List ℕ

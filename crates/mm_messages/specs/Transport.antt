@@ -20,7 +20,7 @@ unfoldable pub ul_nas_transport_layout : Layout Mm
 ul_nas_transport_layout =
     part (V 1) octet_in (λ first.
     part Lve container_in (λ container.
-    elements (fixed_row 0x12 2 ∷ half_row 0x80 ∷ tlv_row 0x22 ∷ tlv_row 0x25 ∷ fixed_row 0x59 2 ∷ []) (λ es.
+    elements (fixed_row 0x12 1 ∷ half_row 0x80 ∷ tlv_row 0x22 ∷ tlv_row 0x25 ∷ fixed_row 0x59 1 ∷ []) (λ es.
     UlNasTransport (low_half first) container (known 0x12 octet_in es) (known 0x80 half_in es) (known 0x22 slice_in es) (known 0x25 dnn_in es))))
 
 unfoldable pub ul_nas_transport : ℕ → List ℕ → Option ℕ → Option ℕ → Option Slice → Option (List ℕ) → List ℕ
@@ -35,7 +35,7 @@ unfoldable pub dl_nas_transport_layout : Layout Mm
 dl_nas_transport_layout =
     part (V 1) octet_in (λ first.
     part Lve container_in (λ container.
-    elements (fixed_row 0x12 2 ∷ fixed_row 0x58 2 ∷ []) (λ es.
+    elements (fixed_row 0x12 1 ∷ fixed_row 0x58 1 ∷ []) (λ es.
     DlNasTransport (low_half first) container (known 0x12 octet_in es) (known 0x58 octet_in es))))
 
 unfoldable pub dl_nas_transport : ℕ → List ℕ → Option ℕ → Option ℕ → List ℕ

@@ -6,10 +6,9 @@ ghost use Rattle.mm_messages.specs.Authentication.{authentication_failure, authe
 
 use crate::message::{Mm, write_head};
 use crate::{elements, parts};
-use nas_base::{Full, Ksi, MmKind, Reader, Writer, walk};
+use nas_base::{Full, Ksi, MmKind, Reader, Shape, Writer, walk};
 use nas_layout::{
-    Abba, BodyRefusal, fixed_row, lv, lv_size, octet_part, shape, tlv, tlv_row, tlv_size, tv,
-    tv_size,
+    Abba, BodyRefusal, fixed_row, lv, lv_size, octet_part, tlv, tlv_row, tlv_size, tv, tv_size,
 };
 
 /// Reads what stands behind the head of an AUTHENTICATION REQUEST.
@@ -19,7 +18,10 @@ pub fn read_request(reader: &mut Reader) -> Result<Mm, BodyRefusal>
 {
     let first = octet_part(1, reader)?;
     let abba = parts::abba(2, reader)?;
-    let found = walk(reader.left(), &shape(&[fixed_row(0x21, 17), tlv_row(0x20)]));
+    let found = walk(
+        reader.left(),
+        &Shape::from_slice(&[fixed_row(0x21, 16), tlv_row(0x20)]).unwrap(),
+    );
     Ok(Mm::AuthenticationRequest {
         ksi: Ksi(first % 16 % 8),
         abba,
@@ -52,7 +54,7 @@ pub fn write_request(
 pub fn read_response(reader: &mut Reader) -> Result<Mm, BodyRefusal>
     ensures { Lays result (laid authentication_response_layout 1 reader.old) }
 {
-    let found = walk(reader.left(), &shape(&[tlv_row(0x2d)]));
+    let found = walk(reader.left(), &Shape::from_slice(&[tlv_row(0x2d)]).unwrap());
     Ok(Mm::AuthenticationResponse {
         res_star: elements::res_star(&found),
     })
@@ -74,7 +76,7 @@ pub fn read_failure(reader: &mut Reader) -> Result<Mm, BodyRefusal>
     ensures { Lays result (laid authentication_failure_layout 1 reader.old) }
 {
     let cause = octet_part(1, reader)?;
-    let found = walk(reader.left(), &shape(&[tlv_row(0x30)]));
+    let found = walk(reader.left(), &Shape::from_slice(&[tlv_row(0x30)]).unwrap());
     Ok(Mm::AuthenticationFailure {
         cause,
         auts: elements::auts(&found),

@@ -6,11 +6,9 @@ ghost use Rattle.mm_messages.specs.ConfigurationUpdate.{configuration_update_com
 
 use crate::elements;
 use crate::message::{Mm, write_head};
-use nas_base::{Full, MmKind, Reader, Writer, walk};
+use nas_base::{Form, Full, MmKind, Reader, Row, Shape, Writer, walk};
 use nas_elements::Guti;
-use nas_layout::{
-    BodyRefusal, Half, fixed_row, half_row, half_tv, half_tv_size, shape, tlve, tlve_row, tlve_size,
-};
+use nas_layout::{BodyRefusal, Half, fixed_row, half_tv, half_tv_size, tlve, tlve_row, tlve_size};
 
 /// Reads what stands behind the head of a CONFIGURATION UPDATE COMMAND.
 #[tactic(auto, unfolding(crate::specs::ConfigurationUpdate::configuration_update_command_layout))]
@@ -19,12 +17,16 @@ pub fn read_command(reader: &mut Reader) -> Result<Mm, BodyRefusal>
 {
     let found = walk(
         reader.left(),
-        &shape(&[
-            half_row(0xd0),
+        &Shape::from_slice(&[
+            Row {
+                iei: 0xd0,
+                form: Form::Half,
+            },
             tlve_row(0x77),
-            fixed_row(0x46, 2),
-            fixed_row(0x47, 8),
-        ]),
+            fixed_row(0x46, 1),
+            fixed_row(0x47, 7),
+        ])
+        .unwrap(),
     );
     Ok(Mm::ConfigurationUpdateCommand {
         indication: elements::indication(&found),

@@ -7,9 +7,11 @@ ghost use Rattle.mm_messages.specs.Parts.{deregistration_code};
 
 use crate::message::{Mm, write_head};
 use crate::{elements, parts};
-use nas_base::{Full, Ksi, MmKind, Reader, Writer, walk};
-use nas_elements::{Identity, two_halves};
-use nas_layout::{BodyRefusal, fixed_row, lve, lve_size, octet_part, shape, tv, tv_size};
+use nas_base::{Full, Ksi, MmKind, Reader, Shape, Writer, walk};
+use nas_elements::Identity;
+use nas_layout::{
+    BodyRefusal, Half, fixed_row, lve, lve_size, octet_part, tv, tv_size, two_halves,
+};
 use std::alloc::Global;
 
 // Switch off: bit 4 of the de-registration type.
@@ -48,7 +50,7 @@ pub fn write_request_of_handset(
 {
     out.fits(4 + lve_size(identity))?;
     write_head(MmKind::DeregistrationRequestUeOriginating, out)?;
-    out.put(&[two_halves(code_of(switch_off), ksi.0)])?;
+    out.put(&[two_halves(Half(code_of(switch_off)), Half(ksi.0))])?;
     lve(identity, out)
 }
 
@@ -58,7 +60,10 @@ pub fn read_request_of_network(reader: &mut Reader) -> Result<Mm, BodyRefusal>
     ensures { Lays result (laid deregistration_request_ue_terminated_layout 1 reader.old) }
 {
     let first = octet_part(1, reader)?;
-    let found = walk(reader.left(), &shape(&[fixed_row(0x58, 2)]));
+    let found = walk(
+        reader.left(),
+        &Shape::from_slice(&[fixed_row(0x58, 1)]).unwrap(),
+    );
     Ok(Mm::DeregistrationRequestUeTerminated {
         switch_off: first % 16 >= SWITCH_OFF,
         cause: elements::cause(&found),

@@ -7,11 +7,11 @@ ghost use Rattle.mm_messages.specs.Registration.{registration_accept, registrati
 
 use crate::message::{Mm, write_head};
 use crate::{elements, parts};
-use nas_base::{Full, Ksi, MmKind, Reader, Writer, walk};
-use nas_elements::{Capability, Guti, Identity, Nssai, Status, TaiList, Timer3, two_halves};
+use nas_base::{Full, Ksi, MmKind, Reader, Shape, Writer, walk};
+use nas_elements::{Capability, Guti, Identity, Nssai, Status, TaiList, Timer3};
 use nas_layout::{
-    BodyRefusal, fixed_row, lve, lve_size, octet_part, shape, tlv, tlv_row, tlv_size, tlve,
-    tlve_row, tlve_size,
+    BodyRefusal, Half, fixed_row, lve, lve_size, octet_part, tlv, tlv_row, tlv_size, tlve,
+    tlve_row, tlve_size, two_halves,
 };
 use std::alloc::Global;
 
@@ -66,7 +66,7 @@ pub fn read_request(alloc: Global, reader: &mut Reader) -> Result<Mm, BodyRefusa
     let identity = parts::identity(alloc, 2, reader)?;
     let found = walk(
         reader.left(),
-        &shape(&[tlv_row(0x2e), tlv_row(0x50), fixed_row(0x52, 7)]),
+        &Shape::from_slice(&[tlv_row(0x2e), tlv_row(0x50), fixed_row(0x52, 6)]).unwrap(),
     );
     Ok(Mm::RegistrationRequest {
         registration: RegistrationType::of(first % 16),
@@ -85,13 +85,14 @@ pub fn read_accept(reader: &mut Reader) -> Result<Mm, BodyRefusal>
     let result = parts::registration_result(1, reader)?;
     let found = walk(
         reader.left(),
-        &shape(&[
+        &Shape::from_slice(&[
             tlve_row(0x77),
             tlv_row(0x54),
             tlv_row(0x15),
             tlv_row(0x50),
             tlv_row(0x5e),
-        ]),
+        ])
+        .unwrap(),
     );
     Ok(Mm::RegistrationAccept {
         result,
@@ -126,7 +127,7 @@ pub fn write_request(
 {
     out.fits(4 + lve_size(identity) + tlv_size(capability) + tlv_size(status))?;
     write_head(MmKind::RegistrationRequest, out)?;
-    out.put(&[two_halves(registration.code() + FOLLOW_ON, ksi.0)])?;
+    out.put(&[two_halves(Half(registration.code() + FOLLOW_ON), Half(ksi.0))])?;
     lve(identity, out)?;
     tlv(0x2e, capability, out)?;
     tlv(0x50, status, out)

@@ -6,10 +6,10 @@ ghost use Rattle.mm_messages.specs.SecurityMode.{security_mode_command, security
 
 use crate::message::{Mm, write_head};
 use crate::{elements, parts};
-use nas_base::{Full, Ksi, MmKind, Octets, Reader, Writer, walk};
+use nas_base::{Full, Ksi, MmKind, Octets, Reader, Shape, Writer, walk};
 use nas_elements::{Algs, Asi, Capability};
 use nas_layout::{
-    BodyRefusal, fixed_row, lv, lv_size, octet_part, shape, tlv, tlv_row, tlv_size, tlve, tlve_row,
+    BodyRefusal, fixed_row, lv, lv_size, octet_part, tlv, tlv_row, tlv_size, tlve, tlve_row,
     tlve_size,
 };
 use std::alloc::Global;
@@ -22,7 +22,10 @@ pub fn read_command(reader: &mut Reader) -> Result<Mm, BodyRefusal>
     let algs = parts::algs(1, reader)?;
     let second = octet_part(2, reader)?;
     let capability = parts::capability(3, reader)?;
-    let found = walk(reader.left(), &shape(&[tlv_row(0x36), fixed_row(0x57, 2)]));
+    let found = walk(
+        reader.left(),
+        &Shape::from_slice(&[tlv_row(0x36), fixed_row(0x57, 1)]).unwrap(),
+    );
     Ok(Mm::SecurityModeCommand {
         algs,
         ksi: Ksi(second % 16 % 8),
@@ -55,7 +58,10 @@ pub fn write_command(
 pub fn read_complete(alloc: Global, reader: &mut Reader) -> Result<Mm, BodyRefusal>
     ensures { Lays result (laid security_mode_complete_layout 1 reader.old) }
 {
-    let found = walk(reader.left(), &shape(&[tlve_row(0x71)]));
+    let found = walk(
+        reader.left(),
+        &Shape::from_slice(&[tlve_row(0x71)]).unwrap(),
+    );
     Ok(Mm::SecurityModeComplete {
         message: elements::message(alloc, &found)?,
     })

@@ -6,9 +6,11 @@ ghost use Rattle.mm_messages.specs.Service.{service_accept, service_accept_layou
 
 use crate::message::{Mm, write_head};
 use crate::{elements, parts};
-use nas_base::{Full, Ksi, MmKind, Reader, Writer, walk};
-use nas_elements::{Identity, Status, two_halves};
-use nas_layout::{BodyRefusal, Half, lve, lve_size, octet_part, shape, tlv, tlv_row, tlv_size};
+use nas_base::{Full, Ksi, MmKind, Reader, Shape, Writer, walk};
+use nas_elements::{Identity, Status};
+use nas_layout::{
+    BodyRefusal, Half, lve, lve_size, octet_part, tlv, tlv_row, tlv_size, two_halves,
+};
 use std::alloc::Global;
 
 /// Reads what stands behind the head of a SERVICE REQUEST.
@@ -18,7 +20,7 @@ pub fn read_request(alloc: Global, reader: &mut Reader) -> Result<Mm, BodyRefusa
 {
     let first = octet_part(1, reader)?;
     let identity = parts::identity(alloc, 2, reader)?;
-    let found = walk(reader.left(), &shape(&[tlv_row(0x50)]));
+    let found = walk(reader.left(), &Shape::from_slice(&[tlv_row(0x50)]).unwrap());
     Ok(Mm::ServiceRequest {
         ksi: Ksi(first % 16 % 8),
         service_type: Half(first / 16),
@@ -40,7 +42,7 @@ pub fn write_request(
 {
     out.fits(4 + lve_size(identity) + tlv_size(status))?;
     write_head(MmKind::ServiceRequest, out)?;
-    out.put(&[two_halves(ksi.0, service_type.0)])?;
+    out.put(&[two_halves(Half(ksi.0), service_type)])?;
     lve(identity, out)?;
     tlv(0x50, status, out)
 }
@@ -51,7 +53,7 @@ pub fn read_reject(reader: &mut Reader) -> Result<Mm, BodyRefusal>
     ensures { Lays result (laid service_reject_layout 1 reader.old) }
 {
     let cause = octet_part(1, reader)?;
-    let found = walk(reader.left(), &shape(&[tlv_row(0x50)]));
+    let found = walk(reader.left(), &Shape::from_slice(&[tlv_row(0x50)]).unwrap());
     Ok(Mm::ServiceReject {
         cause,
         status: elements::status(&found),
@@ -74,7 +76,7 @@ pub fn write_reject(cause: u8, status: &Option<Status>, out: &mut Writer) -> Res
 pub fn read_accept(reader: &mut Reader) -> Result<Mm, BodyRefusal>
     ensures { Lays result (laid service_accept_layout 1 reader.old) }
 {
-    let found = walk(reader.left(), &shape(&[tlv_row(0x50)]));
+    let found = walk(reader.left(), &Shape::from_slice(&[tlv_row(0x50)]).unwrap());
     Ok(Mm::ServiceAccept {
         status: elements::status(&found),
     })

@@ -6,11 +6,11 @@ ghost use Rattle.mm_messages.specs.Transport.{dl_nas_transport, dl_nas_transport
 
 use crate::elements;
 use crate::message::{Mm, write_head};
-use nas_base::{Full, MmKind, Octets, Reader, Writer, walk};
+use nas_base::{Form, Full, MmKind, Octets, Reader, Row, Shape, Writer, walk};
 use nas_elements::{Dnn, Slice};
 use nas_layout::{
-    BodyRefusal, Half, container_part, fixed_row, half_row, half_tv, half_tv_size, known_dnn,
-    known_slice, lve, lve_size, octet_part, shape, tlv, tlv_row, tlv_size, tv, tv_size,
+    BodyRefusal, Half, container_part, fixed_row, half_tv, half_tv_size, known_dnn, known_slice,
+    lve, lve_size, octet_part, tlv, tlv_row, tlv_size, tv, tv_size,
 };
 use std::alloc::Global;
 
@@ -23,13 +23,17 @@ pub fn read_ul(alloc: Global, reader: &mut Reader) -> Result<Mm, BodyRefusal>
     let container = container_part(alloc, 2, reader)?;
     let found = walk(
         reader.left(),
-        &shape(&[
-            fixed_row(0x12, 2),
-            half_row(0x80),
+        &Shape::from_slice(&[
+            fixed_row(0x12, 1),
+            Row {
+                iei: 0x80,
+                form: Form::Half,
+            },
             tlv_row(0x22),
             tlv_row(0x25),
-            fixed_row(0x59, 2),
-        ]),
+            fixed_row(0x59, 1),
+        ])
+        .unwrap(),
     );
     Ok(Mm::UlNasTransport {
         container_type: Half(first % 16),
@@ -79,7 +83,7 @@ pub fn read_dl(alloc: Global, reader: &mut Reader) -> Result<Mm, BodyRefusal>
     let container = container_part(alloc, 2, reader)?;
     let found = walk(
         reader.left(),
-        &shape(&[fixed_row(0x12, 2), fixed_row(0x58, 2)]),
+        &Shape::from_slice(&[fixed_row(0x12, 1), fixed_row(0x58, 1)]).unwrap(),
     );
     Ok(Mm::DlNasTransport {
         container_type: Half(first % 16),

@@ -45,7 +45,6 @@ pub use crate::laws::{
 pub use crate::nssai::Nssai;
 pub use crate::numbers::in_two_octets;
 pub use crate::other::OtherIdentity;
-pub use crate::packed::two_halves;
 pub use crate::slice::Slice;
 pub use crate::status::Status;
 pub use crate::suci::Suci;

@@ -10,7 +10,7 @@ use nas_base::{Digits, Plmn};
 pub const FILLER: u8 = 15;
 
 /// An octet of two halves.
-pub fn two_halves(low: u8, high: u8) -> u8
+pub(crate) fn two_halves(low: u8, high: u8) -> u8
     requires { low + 16 * high < 256 }
     ensures { result ≡ low + 16 * high }
 {

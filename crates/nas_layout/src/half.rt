@@ -1,4 +1,6 @@
 //! Values of half an octet.
+ghost use Rattle.std.specs.Prelude.{◌≡◌};
+ghost use Rattle.nas_elements.specs.Packed.{two_halves};
 ghost use Rattle.nas_elements.specs.Reads.{Reads};
 ghost use Rattle.nas_layout.specs.Half.{half_in};
 
@@ -37,6 +39,13 @@ impl Half {
             [] => Ok(Half(0)),
         }
     }
+}
+
+/// An octet of two halves.
+pub fn two_halves(low: Half, high: Half) -> u8
+    ensures { result ≡ two_halves low high }
+{
+    low.0 + 16 * high.0
 }
 
 impl Written for Half {

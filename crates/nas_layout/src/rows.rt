@@ -1,9 +1,8 @@
 //! The rows of a message's elements.
-ghost use Rattle.std.specs.Prelude.{◌≡◌, ◌≤◌, true, length};
-ghost use Rattle.nas_base.specs.Walking.{is_row};
-ghost use Rattle.nas_layout.specs.Rows.{fixed_row, half_row, tlv_row, tlve_row};
+ghost use Rattle.std.specs.Prelude.{◌≡◌};
+ghost use Rattle.nas_layout.specs.Rows.{fixed_row, tlv_row, tlve_row};
 
-use nas_base::{Form, Row, Shape};
+use nas_base::{Form, Row};
 
 /// An element with a length of one octet.
 pub fn tlv_row(iei: u8) -> Row
@@ -25,32 +24,12 @@ pub fn tlve_row(iei: u8) -> Row
     }
 }
 
-/// An element of so many octets, its identifier among them.
-pub fn fixed_row(iei: u8, count: u8) -> Row
-    requires { 1 ≤ count }
-    ensures { result ≡ fixed_row iei count }
+/// An element without a length, with a value of so many octets behind its identifier. A greater number than 254 counts as 254.
+pub fn fixed_row(iei: u8, value: u8) -> Row
+    ensures { result ≡ fixed_row iei value }
 {
     Row {
         iei,
-        form: Form::Fixed(count),
+        form: Form::Fixed(1 + value.min(254)),
     }
-}
-
-/// An element of one octet, whose identifier is its high half.
-pub fn half_row(iei: u8) -> Row
-    requires { is_row iei Form.Half ≡ true }
-    ensures { result ≡ half_row iei }
-{
-    Row {
-        iei,
-        form: Form::Half,
-    }
-}
-
-/// The shape of these rows.
-pub fn shape(rows: &[Row]) -> Shape
-    requires { length rows.now ≤ 32 }
-    ensures { result ≡ rows.now }
-{
-    Shape::from_slice(rows).unwrap()
 }

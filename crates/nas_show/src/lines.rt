@@ -9,7 +9,7 @@ use crate::pieces::{
 };
 use mm_messages::{Mm, RegistrationType};
 use nas_base::Memory;
-use nas_elements::two_halves;
+use nas_layout::{Half, two_halves};
 use std::alloc::Global;
 
 // A follow-on request is pending: bit 4 beside the registration type.
@@ -31,7 +31,7 @@ pub fn append_lines(alloc: Global, text: &mut Vec<u8>, message: &Mm) -> Result<(
             append_part(
                 alloc,
                 text,
-                &[two_halves(registration.code() + FOLLOW_ON, ksi.0)],
+                &[two_halves(Half(registration.code() + FOLLOW_ON), Half(ksi.0))],
             )?;
             append_identity(alloc, text, identity)?;
             append_element(alloc, text, 0x2e, capability)?;
@@ -61,7 +61,7 @@ pub fn append_lines(alloc: Global, text: &mut Vec<u8>, message: &Mm) -> Result<(
             append_part(
                 alloc,
                 text,
-                &[two_halves(deregistration_code(*switch_off), ksi.0)],
+                &[two_halves(Half(deregistration_code(*switch_off)), Half(ksi.0))],
             )?;
             append_identity(alloc, text, identity)
         }
@@ -75,7 +75,7 @@ pub fn append_lines(alloc: Global, text: &mut Vec<u8>, message: &Mm) -> Result<(
             identity,
             status,
         } => {
-            append_part(alloc, text, &[two_halves(ksi.0, service_type.0)])?;
+            append_part(alloc, text, &[two_halves(Half(ksi.0), *service_type)])?;
             append_identity(alloc, text, identity)?;
             append_element(alloc, text, 0x50, status)
         }

@@ -6,7 +6,8 @@ use crate::pieces::{
     append_counted, append_element, append_half, append_long, append_octets, append_part,
 };
 use nas_base::Memory;
-use nas_elements::{Address, Dnn, Slice, two_halves};
+use nas_elements::{Address, Dnn, Slice};
+use nas_layout::{Half, two_halves};
 use sm_messages::{FlowDescriptions, Sm, half_of};
 use std::alloc::Global;
 
@@ -36,7 +37,7 @@ pub fn append_session_lines(alloc: Global, text: &mut Vec<u8>, message: &Sm) -> 
             flows,
             dnn,
         } => {
-            append_part(alloc, text, &[two_halves(session_type.0, ssc_mode.0)])?;
+            append_part(alloc, text, &[two_halves(Half(session_type.0), *ssc_mode)])?;
             append_long(alloc, text, rules.as_slice())?;
             append_counted(alloc, text, ambr)?;
             append_accept(alloc, text, cause, address, slice, flows, dnn)

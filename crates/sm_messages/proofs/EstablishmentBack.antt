@@ -52,7 +52,7 @@ two_octets : (rates : List ℕ) → length rates ≡ 2 → exactly 2 rates ≡ S
 two_octets rates size = exactly_back 2 (Some rates) size
 
 abbrev request_rows : List RowParts
-request_rows = half_row 0x90 ∷ half_row 0xa0 ∷ fixed_row 0x55 3 ∷ []
+request_rows = half_row 0x90 ∷ half_row 0xa0 ∷ fixed_row 0x55 2 ∷ []
 
 abbrev request_pieces : Option ℕ → Option ℕ → List Piece
 request_pieces session_type ssc_mode = half 0x90 session_type ∷ half 0xa0 ssc_mode ∷ []
@@ -78,7 +78,7 @@ establishment_request_back psi pti rates session_type ssc_mode two below range =
     })
 
 abbrev accept_rows : List RowParts
-accept_rows = fixed_row 0x59 2 ∷ tlv_row 0x29 ∷ tlv_row 0x22 ∷ tlve_row 0x79 ∷ tlv_row 0x25 ∷ fixed_row 0x56 2 ∷ []
+accept_rows = fixed_row 0x59 1 ∷ tlv_row 0x29 ∷ tlv_row 0x22 ∷ tlve_row 0x79 ∷ tlv_row 0x25 ∷ fixed_row 0x56 1 ∷ []
 
 abbrev accept_pieces : Option ℕ → Option Address → Option Slice → Option FlowDescriptions → Option (List ℕ) → List Piece
 accept_pieces cause address slice flows dnn =

@@ -17,7 +17,7 @@ use Rattle.sm_messages.specs.Modification.{modification_command, modification_co
 use Rattle.sm_messages.specs.declared.message.Sm.TheVariants.{PduSessionModificationCommand, PduSessionModificationRequest}
 
 abbrev request_rows : List RowParts
-request_rows = fixed_row 0x59 2 ∷ tlve_row 0x7a ∷ fixed_row 0x55 3 ∷ fixed_row 0x13 3 ∷ []
+request_rows = fixed_row 0x59 1 ∷ tlve_row 0x7a ∷ fixed_row 0x55 2 ∷ fixed_row 0x13 2 ∷ []
 
 abbrev request_pieces : Option ℕ → Option (List ℕ) → List Piece
 request_pieces cause rules = fixed 0x59 1 (option_map one_octet cause) ∷ long 0x7a rules ∷ []
@@ -33,7 +33,7 @@ modification_request_back psi pti cause rules size =
     back psi pti kinds.PduSessionModificationRequest (pieces_octets (request_pieces cause rules)) (PduSessionModificationRequest cause rules) cc
 
 abbrev command_rows : List RowParts
-command_rows = fixed_row 0x59 2 ∷ tlv_row 0x2a ∷ tlve_row 0x7a ∷ fixed_row 0x56 2 ∷ []
+command_rows = fixed_row 0x59 1 ∷ tlv_row 0x2a ∷ tlve_row 0x7a ∷ fixed_row 0x56 1 ∷ []
 
 abbrev command_pieces : Option ℕ → Option Ambr → Option (List ℕ) → List Piece
 command_pieces cause ambr rules = fixed 0x59 1 (option_map one_octet cause) ∷ short 0x2a (option_map ambr_octets ambr) ∷ long 0x7a rules ∷ []

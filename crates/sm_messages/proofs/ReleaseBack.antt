@@ -15,7 +15,7 @@ use Rattle.sm_messages.specs.Release.{release_complete, release_complete_layout,
 use Rattle.sm_messages.specs.declared.message.Sm.TheVariants.{PduSessionReleaseComplete, PduSessionReleaseRequest}
 
 abbrev rows : List RowParts
-rows = fixed_row 0x59 2 ∷ []
+rows = fixed_row 0x59 1 ∷ []
 
 cause_back : (cause : Option ℕ) → known 0x59 octet_in (firsts rows (elements_in rows (optional_tv 0x59 (option_map one_octet cause)))) ≡ cause
 cause_back cause =

@@ -26,7 +26,7 @@ use Rattle.sm_messages.specs.declared.message.Sm.TheVariants.{PduSessionEstablis
 unfoldable pub establishment_request_layout : Layout Sm
 establishment_request_layout =
     part (V 2) (exactly 2) (λ rates.
-    elements (half_row 0x90 ∷ half_row 0xa0 ∷ fixed_row 0x55 3 ∷ []) (λ es.
+    elements (half_row 0x90 ∷ half_row 0xa0 ∷ fixed_row 0x55 2 ∷ []) (λ es.
     PduSessionEstablishmentRequest rates (known 0x90 session_type_in es) (known 0xa0 half_in es)))
 
 unfoldable pub establishment_request : List ℕ → Option ℕ → Option ℕ → List ℕ
@@ -39,7 +39,7 @@ establishment_accept_layout =
     part (V 1) octet_in (λ first.
     part Lve container_in (λ rules.
     part Lv ambr_in (λ ambr.
-    elements (fixed_row 0x59 2 ∷ tlv_row 0x29 ∷ tlv_row 0x22 ∷ tlve_row 0x79 ∷ tlv_row 0x25 ∷ fixed_row 0x56 2 ∷ []) (λ es.
+    elements (fixed_row 0x59 1 ∷ tlv_row 0x29 ∷ tlv_row 0x22 ∷ tlve_row 0x79 ∷ tlv_row 0x25 ∷ fixed_row 0x56 1 ∷ []) (λ es.
     PduSessionEstablishmentAccept (session_type_of (low_half first)) (high_half first) rules ambr (known 0x59 octet_in es) (known 0x29 address_in es)
     (known 0x22 slice_in es) (known 0x79 flow_descriptions_in es) (known 0x25 dnn_in es)))))
 

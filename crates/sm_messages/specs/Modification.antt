@@ -15,7 +15,7 @@ use Rattle.sm_messages.specs.declared.message.Sm.TheVariants.{PduSessionModifica
 -- integrity protection maximum data rate are passed over.
 unfoldable pub modification_request_layout : Layout Sm
 modification_request_layout =
-    elements (fixed_row 0x59 2 ∷ tlve_row 0x7a ∷ fixed_row 0x55 3 ∷ fixed_row 0x13 3 ∷ []) (λ es.
+    elements (fixed_row 0x59 1 ∷ tlve_row 0x7a ∷ fixed_row 0x55 2 ∷ fixed_row 0x13 2 ∷ []) (λ es.
     PduSessionModificationRequest (known 0x59 octet_in es) (known 0x7a container_in es))
 
 unfoldable pub modification_request : Option ℕ → Option (List ℕ) → List ℕ
@@ -28,7 +28,7 @@ modification_reject_layout = part (V 1) octet_in (λ cause. nothing_more (PduSes
 -- PDU SESSION MODIFICATION COMMAND. 5GSM cause, session AMBR, authorized QoS rules; the RQ timer is passed over.
 unfoldable pub modification_command_layout : Layout Sm
 modification_command_layout =
-    elements (fixed_row 0x59 2 ∷ tlv_row 0x2a ∷ tlve_row 0x7a ∷ fixed_row 0x56 2 ∷ []) (λ es.
+    elements (fixed_row 0x59 1 ∷ tlv_row 0x2a ∷ tlve_row 0x7a ∷ fixed_row 0x56 1 ∷ []) (λ es.
     PduSessionModificationCommand (known 0x59 octet_in es) (known 0x2a ambr_in es) (known 0x7a container_in es))
 
 unfoldable pub modification_command : Option ℕ → Option Ambr → Option (List ℕ) → List ℕ

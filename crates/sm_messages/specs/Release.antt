@@ -10,7 +10,7 @@ use Rattle.sm_messages.specs.declared.message.Sm.TheVariants.{PduSessionReleaseR
 
 -- PDU SESSION RELEASE REQUEST. 5GSM cause.
 unfoldable pub release_request_layout : Layout Sm
-release_request_layout = elements (fixed_row 0x59 2 ∷ []) (λ es. PduSessionReleaseRequest (known 0x59 octet_in es))
+release_request_layout = elements (fixed_row 0x59 1 ∷ []) (λ es. PduSessionReleaseRequest (known 0x59 octet_in es))
 
 unfoldable pub release_request : Option ℕ → List ℕ
 release_request cause = optional_tv 0x59 (option_map one_octet cause)
@@ -25,7 +25,7 @@ release_command_layout = part (V 1) octet_in (λ cause. nothing_more (PduSession
 
 -- PDU SESSION RELEASE COMPLETE. 5GSM cause.
 unfoldable pub release_complete_layout : Layout Sm
-release_complete_layout = elements (fixed_row 0x59 2 ∷ []) (λ es. PduSessionReleaseComplete (known 0x59 octet_in es))
+release_complete_layout = elements (fixed_row 0x59 1 ∷ []) (λ es. PduSessionReleaseComplete (known 0x59 octet_in es))
 
 unfoldable pub release_complete : Option ℕ → List ℕ
 release_complete cause = optional_tv 0x59 (option_map one_octet cause)

@@ -8,12 +8,12 @@ ghost use Rattle.sm_messages.specs.Parts.{head};
 use crate::message::{Sm, write_head};
 use crate::session_type::half_of;
 use crate::{FlowDescriptions, SessionType, elements, parts};
-use nas_base::{Full, Octets, Reader, SmKind, Writer, walk};
-use nas_elements::{Address, Ambr, Dnn, Slice, two_halves};
+use nas_base::{Form, Full, Octets, Reader, Row, Shape, SmKind, Writer, walk};
+use nas_elements::{Address, Ambr, Dnn, Slice};
 use nas_layout::{
-    BodyRefusal, Half, container_part, fixed_row, half_row, half_tv, half_tv_size, known_dnn,
-    known_slice, lv, lv_size, lve, lve_size, octet_part, shape, tlv, tlv_row, tlv_size, tlve,
-    tlve_row, tlve_size, tv, tv_size,
+    BodyRefusal, Half, container_part, fixed_row, half_tv, half_tv_size, known_dnn, known_slice,
+    lv, lv_size, lve, lve_size, octet_part, tlv, tlv_row, tlv_size, tlve, tlve_row, tlve_size, tv,
+    tv_size, two_halves,
 };
 use std::alloc::Global;
 
@@ -25,7 +25,18 @@ pub fn read_request(reader: &mut Reader) -> Result<Sm, BodyRefusal>
     let maximum_rates = parts::maximum_rates(1, reader)?;
     let found = walk(
         reader.left(),
-        &shape(&[half_row(0x90), half_row(0xa0), fixed_row(0x55, 3)]),
+        &Shape::from_slice(&[
+            Row {
+                iei: 0x90,
+                form: Form::Half,
+            },
+            Row {
+                iei: 0xa0,
+                form: Form::Half,
+            },
+            fixed_row(0x55, 2),
+        ])
+        .unwrap(),
     );
     Ok(Sm::PduSessionEstablishmentRequest {
         maximum_rates,
@@ -64,14 +75,15 @@ pub fn read_accept(alloc: Global, reader: &mut Reader) -> Result<Sm, BodyRefusal
     let ambr = parts::ambr(3, reader)?;
     let found = walk(
         reader.left(),
-        &shape(&[
-            fixed_row(0x59, 2),
+        &Shape::from_slice(&[
+            fixed_row(0x59, 1),
             tlv_row(0x29),
             tlv_row(0x22),
             tlve_row(0x79),
             tlv_row(0x25),
-            fixed_row(0x56, 2),
-        ]),
+            fixed_row(0x56, 1),
+        ])
+        .unwrap(),
     );
     Ok(Sm::PduSessionEstablishmentAccept {
         session_type: SessionType::of(first % 16),
@@ -110,7 +122,7 @@ pub fn write_accept(
             + accept_elements_size(cause, address, slice, flows, dnn),
     )?;
     write_head(psi, pti, SmKind::PduSessionEstablishmentAccept, out)?;
-    out.put(&[two_halves(session_type.0, ssc_mode.0)])?;
+    out.put(&[two_halves(Half(session_type.0), ssc_mode)])?;
     lve(rules, out)?;
     lv(ambr, out)?;
     write_accept_elements(cause, address, slice, flows, dnn, out)

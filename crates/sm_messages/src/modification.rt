@@ -7,11 +7,11 @@ ghost use Rattle.sm_messages.specs.Parts.{head};
 
 use crate::elements;
 use crate::message::{Sm, write_head};
-use nas_base::{Full, Octets, Reader, SmKind, Writer, walk};
+use nas_base::{Full, Octets, Reader, Shape, SmKind, Writer, walk};
 use nas_elements::Ambr;
 use nas_layout::{
-    BodyRefusal, fixed_row, octet_part, shape, tlv, tlv_row, tlv_size, tlve, tlve_row, tlve_size,
-    tv, tv_size,
+    BodyRefusal, fixed_row, octet_part, tlv, tlv_row, tlv_size, tlve, tlve_row, tlve_size, tv,
+    tv_size,
 };
 use std::alloc::Global;
 
@@ -22,12 +22,13 @@ pub fn read_request(alloc: Global, reader: &mut Reader) -> Result<Sm, BodyRefusa
 {
     let found = walk(
         reader.left(),
-        &shape(&[
-            fixed_row(0x59, 2),
+        &Shape::from_slice(&[
+            fixed_row(0x59, 1),
             tlve_row(0x7a),
-            fixed_row(0x55, 3),
-            fixed_row(0x13, 3),
-        ]),
+            fixed_row(0x55, 2),
+            fixed_row(0x13, 2),
+        ])
+        .unwrap(),
     );
     Ok(Sm::PduSessionModificationRequest {
         cause: elements::cause(&found),
@@ -68,12 +69,13 @@ pub fn read_command(alloc: Global, reader: &mut Reader) -> Result<Sm, BodyRefusa
 {
     let found = walk(
         reader.left(),
-        &shape(&[
-            fixed_row(0x59, 2),
+        &Shape::from_slice(&[
+            fixed_row(0x59, 1),
             tlv_row(0x2a),
             tlve_row(0x7a),
-            fixed_row(0x56, 2),
-        ]),
+            fixed_row(0x56, 1),
+        ])
+        .unwrap(),
     );
     Ok(Sm::PduSessionModificationCommand {
         cause: elements::cause(&found),

@@ -7,15 +7,18 @@ ghost use Rattle.sm_messages.specs.Release.{release_command_layout, release_comp
 
 use crate::elements;
 use crate::message::{Sm, write_head};
-use nas_base::{Full, Reader, SmKind, Writer, walk};
-use nas_layout::{BodyRefusal, fixed_row, octet_part, shape, tv, tv_size};
+use nas_base::{Full, Reader, Shape, SmKind, Writer, walk};
+use nas_layout::{BodyRefusal, fixed_row, octet_part, tv, tv_size};
 
 /// Reads what stands behind the head of a PDU SESSION RELEASE REQUEST.
 #[tactic(auto, unfolding(crate::specs::Release::release_request_layout))]
 pub fn read_request(reader: &mut Reader) -> Result<Sm, BodyRefusal>
     ensures { Lays result (laid release_request_layout 1 reader.old) }
 {
-    let found = walk(reader.left(), &shape(&[fixed_row(0x59, 2)]));
+    let found = walk(
+        reader.left(),
+        &Shape::from_slice(&[fixed_row(0x59, 1)]).unwrap(),
+    );
     Ok(Sm::PduSessionReleaseRequest {
         cause: elements::cause(&found),
     })
@@ -54,7 +57,10 @@ pub fn read_command(reader: &mut Reader) -> Result<Sm, BodyRefusal>
 pub fn read_complete(reader: &mut Reader) -> Result<Sm, BodyRefusal>
     ensures { Lays result (laid release_complete_layout 1 reader.old) }
 {
-    let found = walk(reader.left(), &shape(&[fixed_row(0x59, 2)]));
+    let found = walk(
+        reader.left(),
+        &Shape::from_slice(&[fixed_row(0x59, 1)]).unwrap(),
+    );
     Ok(Sm::PduSessionReleaseComplete {
         cause: elements::cause(&found),
     })

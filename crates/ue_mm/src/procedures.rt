@@ -1,6 +1,6 @@
-//! The procedures that a handset has open. Each owns what its message says and names the timer that runs while it is open; a
-//! transition to another phase consumes it, so that a timer of a procedure that has ended finds no owner.
-ghost use Rattle.std.specs.Prelude.{◌≡◌, option_map};
+//! The procedures that a handset has open. Each owns what its message says; a transition to another phase consumes it. The timer
+//! of a phase is `timer_of` in specs/State.antt: the rows start and stop it by its name.
+ghost use Rattle.std.specs.Prelude.{◌≡◌};
 ghost use Rattle.ue_mm.specs.State.{is_deregistering, registering_word, word_of};
 
 use nas_base::{Kind, Ksi, MmWord};

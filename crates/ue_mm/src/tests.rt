@@ -5,7 +5,7 @@ ghost use Rattle.std.specs.Prelude.{◌<◌, ◌≤◌, ◌^◌};
 use crate::{HandsetConfig, MmCommand, StepRefusal, UeInput, UeMm, UeOut, UeOuts, step};
 use key_chain::{kamf, kausf, kseaf, nas_keys, res_star};
 use milenage::f2345;
-use nas_base::{Dir, Kind, Ksi, Memory, MmWord, Moment, Octets, Plmn, Supi, Writer};
+use nas_base::{Dir, Kind, Ksi, MmWord, Moment, Octets, Plmn, Supi, Writer};
 use nas_elements::{Algs, Capability, Status};
 use nas_security::{Challenge, Context, Verdict, protect, unprotect};
 use nas_timers::{Durations, TimerId};
