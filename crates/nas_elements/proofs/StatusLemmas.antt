@@ -1,5 +1,5 @@
 -- Bits and the octets that they make.
-use Rattle.std.proofs.Common.{◌≡◌, ◌<◌, ◌≤◌, ◌+◌, ◌-◌, ◌*◌, ◌/◌, ◌%◌, ◌^◌, ◌==◌, ℕ, zero, suc, Bool, true, false, List, [], ◌∷◌, ◌++◌, length, take, drop, Some, is_some, arith, refl, ap, subst, ◌∙◌}
+use Rattle.std.proofs.Common.{◌≡◌, ◌<◌, ◌≤◌, ◌+◌, ◌-◌, ◌*◌, ◌/◌, ◌%◌, ◌^◌, ◌==◌, ◌&&◌, ℕ, zero, suc, Bool, true, false, List, [], ◌∷◌, ◌++◌, length, take, drop, Some, is_some, arith, refl, ap, subst, ◌∙◌}
 use Rattle.std.proofs.Math.ListN.{replicate, set}
 use Rattle.std.proofs.lemmas.Bool.Decides.{nat_tests}
 use Rattle.std.proofs.lemmas.Grind.{common_steps}
@@ -7,7 +7,7 @@ use Rattle.std.proofs.lemmas.List.{length-replicate}
 use Rattle.std.proofs.lemmas.Nat.{pow_pos}
 use Rattle.nas_elements.proofs.Sized.{starts_whole}
 use Rattle.nas_elements.specs.Reads.{IsWrongAt}
-use Rattle.nas_elements.specs.Status.{bits, number, status_in, status_octets}
+use Rattle.nas_elements.specs.Status.{bits, both, number, status_in, status_octets}
 
 -- so many bits make a number below that power of two
 number_limit : (count : ℕ) (held : List Bool) → length held ≤ count → number held < 2 ^ count
@@ -59,4 +59,13 @@ pub unpack_step : (places : List Bool) (i left octet : ℕ) → i < length place
 unpack_step places i left octet more told =
     let e : length places - i ≡ suc (length places - (i + 1)) = omega arith in
     let next : bits (length places - i) left ≡ (left % 2 == 1) ∷ bits (length places - (i + 1)) (left / 2) = ap (λ n. bits n left) e in
+    grind (arith, common_steps, next, told)
+
+pub both_step : (places one other : List Bool) (i : ℕ) (bit its : Bool) → i < length places
+    → drop i one ≡ bit ∷ drop (i + 1) one → drop i other ≡ its ∷ drop (i + 1) other
+    → take i places ++ both (drop i one) (drop i other) ≡ both one other
+    → take (i + 1) (set places i (bit && its)) ++ both (drop (i + 1) one) (drop (i + 1) other) ≡ both one other
+both_step places one other i bit its more first second told =
+    let next : both (drop i one) (drop i other) ≡ (bit && its) ∷ both (drop (i + 1) one) (drop (i + 1) other) =
+        ap (λ xs. both xs (drop i other)) first ∙ ap (λ ys. both (bit ∷ drop (i + 1) one) ys) second in
     grind (arith, common_steps, next, told)

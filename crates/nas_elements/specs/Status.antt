@@ -1,6 +1,6 @@
 -- The PDU session status (TS 24.501 clause 9.11.3.44): for each of the identities 1 to 15 whether it is in the set, as 15 tests
 -- of which the k-th, counted from 0, tells of identity k + 1.
-use Rattle.std.specs.Prelude.{ℕ, zero, suc, ◌+◌, ◌-◌, ◌*◌, ◌/◌, ◌%◌, ◌==◌, Bool, true, false, List, [], ◌∷◌, ◌++◌, take, drop, slice_index_or, slice_set, Option, Some, None, if◌then◌else◌}
+use Rattle.std.specs.Prelude.{ℕ, zero, suc, ◌+◌, ◌-◌, ◌*◌, ◌/◌, ◌%◌, ◌==◌, ◌&&◌, Bool, true, false, List, [], ◌∷◌, ◌++◌, take, drop, slice_index_or, slice_set, Option, Some, None, if◌then◌else◌}
 
 -- the lowest bits of an octet, from bit 1 on
 abbrev pub bits : ℕ → ℕ → List Bool
@@ -34,3 +34,9 @@ with_session psi held = slice_set held (psi - 1) true
 
 abbrev pub without_session : ℕ → List Bool → List Bool
 without_session psi held = slice_set held (psi - 1) false
+
+-- the identities that are in both of two sets
+abbrev pub both : List Bool → List Bool → List Bool
+both [] others = []
+both (bit ∷ bits) [] = []
+both (bit ∷ bits) (other ∷ others) = (bit && other) ∷ both bits others

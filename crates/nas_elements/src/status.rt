@@ -1,8 +1,8 @@
 //! A set of PDU sessions.
-ghost use Rattle.std.specs.Prelude.{◌≡◌, ◌≤◌, ◌<◌, length};
+ghost use Rattle.std.specs.Prelude.{◌≡◌, ◌≤◌, ◌<◌, ◌&&◌, length};
 ghost use Rattle.nas_base.specs.Writing.{Writes};
 ghost use Rattle.nas_elements.specs.Reads.{Reads};
-ghost use Rattle.nas_elements.specs.Status.{bits, has, no_session, number, status_in, status_octets, with_session, without_session};
+ghost use Rattle.nas_elements.specs.Status.{bits, both, has, no_session, number, status_in, status_octets, with_session, without_session};
 
 use crate::Wrong;
 use nas_base::{Full, Psi, Writer};
@@ -81,6 +81,18 @@ impl Status {
         self.held[usize::from(psi.0) - 1]
     }
 
+    /// The sessions that are in both sets.
+    #[tactic(auto, using(crate::proofs::StatusLemmas::both_step))]
+    pub fn both(&self, other: &Status) -> Status
+        ensures { result ≡ both self.now other.now }
+    {
+        let mut held = [false; 15];
+        for (index, place) in held.iter_mut().enumerate() {
+            *place = both_hold(self.held[index], other.held[index]);
+        }
+        Status { held }
+    }
+
     /// Takes the session into the set.
     pub fn insert(&mut self, psi: Psi)
         ensures { self.new ≡ with_session psi self.old }
@@ -94,6 +106,13 @@ impl Status {
     {
         self.held[usize::from(psi.0) - 1] = false;
     }
+}
+
+// Whether both sets hold a session.
+fn both_hold(one: bool, other: bool) -> bool
+    ensures { result ≡ one && other }
+{
+    one && other
 }
 
 // Fills the places with the lowest bits of the octet, from bit 1 on.
