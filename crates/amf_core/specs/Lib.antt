@@ -2,6 +2,7 @@ pub mod Acceptance
 pub mod Answers
 pub mod Authentication
 pub mod Challenges
+pub mod Changes
 pub mod Checks
 pub mod Commands
 pub mod Config

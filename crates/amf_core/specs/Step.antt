@@ -4,7 +4,7 @@ use Rattle.milenage.specs.Home.{HomeRecord}
 use Rattle.nas_base.specs.declared.memory.Memory.{Memory}
 use Rattle.amf_core.specs.Commands.{authenticate, deregister}
 use Rattle.amf_core.specs.Delivery.{brought_up}
-use Rattle.amf_core.specs.Drafts.{changed, home_now, unchanged}
+use Rattle.amf_core.specs.Changes.{changed, home_now, unchanged}
 use Rattle.amf_core.specs.Events.{carried_down, dropped, expired, fenced, sessions_told}
 use Rattle.amf_core.specs.Framing.{framed_all}
 use Rattle.amf_core.specs.State.{AmfState}

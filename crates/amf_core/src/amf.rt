@@ -1,11 +1,11 @@
 //! The AMF: what it keeps.
 ghost use Rattle.std.specs.Prelude.{◌≡◌, map, option_map, IfOk};
-ghost use Rattle.amf_core.specs.Drafts.{changed};
+ghost use Rattle.amf_core.specs.Changes.{changed};
 ghost use Rattle.amf_core.specs.State.{first, has_number, numbered_from, subscriber_in, unknown_yet, view_in};
 ghost use Rattle.amf_core.specs.Keyed.{all_current, found};
 ghost use Rattle.amf_core.specs.State.{is_same_link, is_same_subscriber};
 
-use crate::draft::Changes;
+use crate::changes::Changes;
 use crate::{AmfConfig, AmfSubscriber, Configured, Link, NetView, Subscriber};
 use nas_base::{Memory, Supi};
 use std::alloc::Global;

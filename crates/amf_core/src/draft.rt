@@ -1,55 +1,19 @@
 //! What a step leaves.
-ghost use Rattle.std.specs.Prelude.{◌≡◌, ◌+◌, ◌<◌, ◌≤◌, ◌^◌, option_map, IfOk, OnOk};
+ghost use Rattle.std.specs.Prelude.{◌≡◌, ◌+◌, ◌<◌, ◌^◌, option_map, IfOk, OnOk};
 ghost use Rattle.amf_core.specs.Challenges.{VectorFits};
-ghost use Rattle.amf_core.specs.Drafts.{Resyncs, by_now, home_by_now, unchanged, with_home, with_link_record, with_next_tmsi, with_record};
+ghost use Rattle.amf_core.specs.Changes.{unchanged};
+ghost use Rattle.amf_core.specs.Drafts.{Resyncs, by_now, home_by_now, with_home, with_link_record, with_next_tmsi, with_record};
 ghost use Rattle.amf_core.specs.Keyed.{current, found};
 ghost use Rattle.amf_core.specs.Naming.{keeps_guti, keeps_stmsi};
 ghost use Rattle.amf_core.specs.State.{has_number, is_same_link, is_same_subscriber, link_in, subscriber_in};
 ghost use Rattle.milenage.specs.Home.{challenge_of, challenged};
 
-use crate::amf::{link_of, record_of};
+use crate::changes::{Before, Changes};
 use crate::{Amf, Configured, Link, Subscriber};
 use milenage::{Home, HomeRefusal, Vector};
 use nas_base::{Memory, Supi};
 use nas_elements::{Guti, Stmsi};
 use std::alloc::Global;
-use std::marker::Model;
-
-/// What was kept before a step: the AMF, and the home network.
-#[derive(Drop)]
-pub struct Before<'a> {
-    amf: &'a Amf,
-    home: &'a Home,
-}
-
-impl<'a> Model for Before<'a> {
-    ghost use Rattle.amf_core.specs.Drafts.{BeforeState};
-
-    ghost Value = { BeforeState };
-
-    ghost view = { λ b. record { amf = b.amf.now; home = b.home.now } };
-}
-
-/// What a step changed: records of subscribers and of links, the newest first, the next 5G-TMSI, 2^32 where none is left, and the home
-/// network, if it changed.
-#[derive(Drop)]
-pub struct Changes {
-    pub subscribers: Vec<Subscriber>,
-    pub links: Vec<Link>,
-    pub tmsi: u64,
-    pub home: Option<Home>,
-}
-
-impl Model for Changes {
-    ghost use Rattle.std.specs.Prelude.{◌≤◌, ◌^◌};
-    ghost use Rattle.amf_core.specs.Drafts.{ChangeLists};
-
-    ghost Value = { ChangeLists };
-
-    ghost view = { λ c. record { subscribers = c.subscribers.items; links = c.links.items; tmsi = c.tmsi; home = c.home } };
-
-    ghost invariant = { λ c. c.tmsi ≤ 2 ^ 32 };
-}
 
 /// What a step leaves: what was kept before it, which stays as it is until the step is done, and what it changed. So want of memory leaves
 /// all as before, and a step copies the records alone that it changes. The home network is copied where a challenge starts or an
@@ -80,26 +44,28 @@ impl<'a> Draft<'a> {
     pub fn config(&self) -> &Configured
         ensures { result.now ≡ self.now.before.amf.config }
     {
-        &self.before.amf.config
+        let amf = self.before.amf;
+        &amf.config
     }
 
     // A record as it is by now.
-    fn by_now(&'a self, record: &'a Subscriber) -> &'a Subscriber
-        ensures { result.now ≡ current is_same_subscriber self.now.changes.subscribers record.now }
+    fn by_now<'b>(&'b self, kept: &'b Subscriber) -> &'b Subscriber
+        ensures { result.now ≡ current is_same_subscriber self.now.changes.subscribers kept.now }
     {
         for changed in self.changes.subscribers.as_slice() {
-            if record.supi.as_slice() == changed.supi.as_slice() {
+            if kept.supi.as_slice() == changed.supi.as_slice() {
                 return changed;
             }
         }
-        record
+        kept
     }
 
     /// The record of a subscriber, by the digits of its SUPI.
     pub fn subscriber(&self, supi: &[u8]) -> Option<Subscriber>
         ensures { result ≡ subscriber_in supi.now (by_now self.now).subscribers }
     {
-        for record in self.before.amf.subscribers.as_slice() {
+        let amf = self.before.amf;
+        for record in amf.subscribers.as_slice() {
             let by_now = self.by_now(record);
             if by_now.supi.as_slice() == supi {
                 return Some(by_now.copy());
@@ -112,7 +78,8 @@ impl<'a> Draft<'a> {
     pub fn keeper(&self, guti: &Guti) -> Option<Subscriber>
         ensures { result ≡ found (keeps_guti guti.now) (by_now self.now).subscribers }
     {
-        for record in self.before.amf.subscribers.as_slice() {
+        let amf = self.before.amf;
+        for record in amf.subscribers.as_slice() {
             let by_now = self.by_now(record);
             if by_now.kept.has(guti) {
                 return Some(by_now.copy());
@@ -125,7 +92,8 @@ impl<'a> Draft<'a> {
     pub fn short_keeper(&self, stmsi: &Stmsi) -> Option<Subscriber>
         ensures { result ≡ found (keeps_stmsi stmsi.now) (by_now self.now).subscribers }
     {
-        for record in self.before.amf.subscribers.as_slice() {
+        let amf = self.before.amf;
+        for record in amf.subscribers.as_slice() {
             let by_now = self.by_now(record);
             if by_now.kept.has_short(stmsi) {
                 return Some(by_now.copy());
@@ -145,15 +113,15 @@ impl<'a> Draft<'a> {
     }
 
     // A record of a link as it is by now.
-    fn link_by_now(&'a self, record: &'a Link) -> &'a Link
-        ensures { result.now ≡ current is_same_link self.now.changes.links record.now }
+    fn link_by_now<'b>(&'b self, kept: &'b Link) -> &'b Link
+        ensures { result.now ≡ current is_same_link self.now.changes.links kept.now }
     {
         for changed in self.changes.links.as_slice() {
-            if record.number == changed.number {
+            if kept.number == changed.number {
                 return changed;
             }
         }
-        record
+        kept
     }
 
     /// The record of a link.
@@ -171,7 +139,8 @@ impl<'a> Draft<'a> {
     fn found_link(&self, number: u16) -> Option<&Link>
         ensures { option_map (λ l. l.now) result ≡ found (has_number number) (by_now self.now).links }
     {
-        for record in self.before.amf.links.as_slice() {
+        let amf = self.before.amf;
+        for record in amf.links.as_slice() {
             let by_now = self.link_by_now(record);
             if by_now.number == number {
                 return Some(by_now);

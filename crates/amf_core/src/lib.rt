@@ -7,6 +7,7 @@ mod acts;
 mod amf;
 mod authentication;
 mod challenges;
+mod changes;
 mod checks;
 mod commands;
 mod config;

@@ -1,9 +1,10 @@
 //! REGISTRATION REQUEST.
 ghost use Rattle.std.specs.Prelude.{◌≡◌, OnOk};
+ghost use Rattle.amf_core.specs.Naming.{keeper, named_by_suci};
 ghost use Rattle.amf_core.specs.Registration.{accept, accept_sent, acceptance, counting_capability, equal_acceptance, identity_wanted, is_emergency, is_enough, is_granted, is_on, is_periodic, is_purpose, is_running, periodic_accepted, registration_requested, request_by_guti, request_by_identity, request_by_suci, request_weighed, requested};
 
 use crate::acts::Protection;
-use crate::requests::copied;
+use crate::requests::{copied, copied_suci};
 use crate::work::Work;
 use crate::{Accepting, Configured, Named, Procedure, Purpose, Request, Subscriber};
 use mm_messages::{Mm, RegistrationType};
@@ -12,7 +13,7 @@ use nas_base::mm_cause::{
     UE_SECURITY_CAPABILITIES_MISMATCH,
 };
 use nas_base::{Ksi, Memory, Supi};
-use nas_elements::{Capability, Guti, Identity, Nssai, Status, TaiList};
+use nas_elements::{Capability, Guti, Identity, Nssai, Status, Suci, TaiList};
 use nas_layout::Half;
 use std::alloc::Global;
 
@@ -277,6 +278,36 @@ impl<'a> Work<'a> {
         }
     }
 
+    // A request that names its sender by a SUCI.
+    fn request_of_suci(
+        &mut self,
+        alloc: Global,
+        number: u16,
+        passed: &Option<Supi>,
+        request: Request,
+        suci: &Suci,
+    ) -> Result<(), Memory>
+        ensures { OnOk result (self.new ≡ request_by_suci number passed.now request (named_by_suci suci.now self.old) self.old) }
+    {
+        let s = self.named_by_suci(suci);
+        self.request_by_suci(alloc, number, passed, request, s)
+    }
+
+    // A request that names its sender by a 5G-GUTI.
+    fn request_of_guti(
+        &mut self,
+        alloc: Global,
+        number: u16,
+        passed: &Option<Supi>,
+        request: Request,
+        guti: &Guti,
+    ) -> Result<(), Memory>
+        ensures { OnOk result (self.new ≡ request_by_guti number passed.now request (keeper guti.now self.old) self.old) }
+    {
+        let s = self.keeper(guti);
+        self.request_by_guti(alloc, number, passed, request, s)
+    }
+
     // A request by the identity that it names.
     fn request_by_identity(
         &mut self,
@@ -285,34 +316,32 @@ impl<'a> Work<'a> {
         passed: &Option<Supi>,
         registration: RegistrationType,
         ksi: Ksi,
-        identity: Identity,
+        identity: &Identity,
         capability: Option<Capability>,
         status: Option<Status>,
     ) -> Result<(), Memory>
-        ensures { OnOk result (self.new ≡ request_by_identity number passed.now registration ksi identity capability status self.old) }
+        ensures { OnOk result (self.new ≡ request_by_identity number passed.now registration ksi identity.now capability status self.old) }
     {
         match identity {
             Identity::Suci(suci) => {
-                let s = self.named_by_suci(&suci);
                 let request = Request {
                     registration,
                     ksi,
-                    identity: Named::Suci(suci),
+                    identity: Named::Suci(copied_suci(suci)),
                     capability,
                     status,
                 };
-                self.request_by_suci(alloc, number, passed, request, s)
+                self.request_of_suci(alloc, number, passed, request, suci)
             }
             Identity::Guti(guti) => {
-                let s = self.keeper(&guti);
                 let request = Request {
                     registration,
                     ksi,
-                    identity: Named::Guti(guti),
+                    identity: Named::Guti(guti.copy()),
                     capability,
                     status,
                 };
-                self.request_by_guti(alloc, number, passed, request, s)
+                self.request_of_guti(alloc, number, passed, request, guti)
             }
             Identity::Stmsi(_) | Identity::Other(_) => {
                 self.reject(number, UE_IDENTITY_CANNOT_BE_DERIVED_BY_THE_NETWORK)
@@ -344,7 +373,7 @@ impl<'a> Work<'a> {
             passed,
             registration,
             ksi,
-            identity,
+            &identity,
             capability,
             status,
         )

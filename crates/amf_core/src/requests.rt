@@ -97,11 +97,7 @@ impl Named {
         ensures { result ≡ self.now }
     {
         match self {
-            Named::Suci(suci) => Named::Suci(Suci {
-                plmn: suci.plmn.copy(),
-                routing: suci.routing.copy(),
-                msin: suci.msin.copy(),
-            }),
+            Named::Suci(suci) => Named::Suci(copied_suci(suci)),
             Named::Guti(guti) => Named::Guti(guti.copy()),
         }
     }
@@ -130,6 +126,17 @@ impl Request {
             capability: copied(&self.capability),
             status: self.status,
         }
+    }
+}
+
+/// An equal SUCI.
+pub fn copied_suci(suci: &Suci) -> Suci
+    ensures { result ≡ suci.now }
+{
+    Suci {
+        plmn: suci.plmn.copy(),
+        routing: suci.routing.copy(),
+        msin: suci.msin.copy(),
     }
 }
 

@@ -1,12 +1,14 @@
 //! One step of an AMF.
 ghost use Rattle.std.specs.Prelude.{◌≡◌, OnOk};
+ghost use Rattle.amf_core.specs.Changes.{home_now};
 ghost use Rattle.amf_core.specs.Events.{carried_down};
 ghost use Rattle.amf_core.specs.Outcome.{Works};
 ghost use Rattle.amf_core.specs.Step.{Follows, Leaves, Steps, step_of, worked};
 
 use crate::acts::Acts;
 use crate::commands::unrefused;
-use crate::draft::{Changes, Draft};
+use crate::changes::Changes;
+use crate::draft::Draft;
 use crate::framing::Framed;
 use crate::work::Work;
 use crate::{Amf, AmfInput, AmfOuts, AmfRefusal};
@@ -41,10 +43,17 @@ pub fn step(
 {
     let done = worked_on(alloc, amf, home, now, rand, input)?;
     amf.take_over(&done.changes);
-    if let Some(after) = done.changes.home {
+    take_home(home, done.changes.home);
+    Ok(done.outs)
+}
+
+// The home network becomes what it is by now.
+fn take_home(home: &mut Home, after: Option<Home>)
+    ensures { home.new ≡ home_now after home.old }
+{
+    if let Some(after) = after {
         *home = after;
     }
-    Ok(done.outs)
 }
 
 // The row of an input, and what it leaves.

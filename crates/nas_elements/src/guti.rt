@@ -113,6 +113,18 @@ impl Guti {
     }
 }
 
+// What a place of a list holds that isn't taken: lists of a fixed size need a value for it.
+impl Default for Guti {
+    fn default() -> Self {
+        Guti {
+            plmn: Plmn::from_codes(&[0, 0, 1], &[0, 1]).unwrap(),
+            region: 0,
+            set_pointer: 0,
+            tmsi: 0,
+        }
+    }
+}
+
 impl Stmsi {
     /// The 5G-S-TMSI in the octets.
     ///
