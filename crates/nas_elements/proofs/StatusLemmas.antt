@@ -67,5 +67,5 @@ pub both_step : (places one other : List Bool) (i : ℕ) (bit its : Bool) → i 
     → take (i + 1) (set places i (bit && its)) ++ both (drop (i + 1) one) (drop (i + 1) other) ≡ both one other
 both_step places one other i bit its more first second told =
     let next : both (drop i one) (drop i other) ≡ (bit && its) ∷ both (drop (i + 1) one) (drop (i + 1) other) =
-        ap (λ xs. both xs (drop i other)) first ∙ ap (λ ys. both (bit ∷ drop (i + 1) one) ys) second in
+    ap (λ xs. both xs (drop i other)) first ∙ ap (λ ys. both (bit ∷ drop (i + 1) one) ys) second in
     grind (arith, common_steps, next, told)
