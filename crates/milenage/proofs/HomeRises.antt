@@ -1,19 +1,16 @@
 -- SQN_HE only rises.
-use Rattle.std.proofs.Common.{◌≡◌, refl, ap, ◌∙◌, sym, subst, ℕ, ◌<◌, ◌≤◌, ◌+◌, ◌-◌, ◌^◌, suc, max, Bool, true, false, nat_lt, List, [], ◌∷◌, length, Option, Some, None, MatchOption, Result, Ok, Err, if◌then◌else◌, arith}
+use Rattle.std.proofs.Common.{◌≡◌, refl, ap, ◌∙◌, sym, subst, ℕ, ◌<◌, ◌≤◌, ◌+◌, ◌-◌, ◌^◌, max, Bool, true, false, nat_lt, List, [], ◌∷◌, Option, Some, None, MatchOption, Result, Ok, Err, if◌then◌else◌, arith}
 use Rattle.std.specs.Str.{bytes_eq}
 use Rattle.std.specs.List.{list_all}
 use Rattle.std.proofs.lemmas.Bool.{and_parts, ltb-true, ltb-false}
 use Rattle.std.proofs.lemmas.Option.{same_Some}
 use Rattle.nas_base.specs.Branches.{chosen, per, when◌then◌else◌}
 use Rattle.milenage.specs.Autn.{vector}
-use Rattle.milenage.specs.Checking.{checked, opened}
-use Rattle.milenage.specs.Home.{HomeRecord, challenge_of, challenged, home_record, is_home, is_sqn, last_sqn, mac_s_in, resync_of, resynced, wanted_mac_s, with_sqn}
-use Rattle.milenage.specs.HomeLaws.{AutsIsRight, CallsOnlyRaise, ChallengesRise, HomeCall, IsFresh, IsGiven, IsRight, OnlyRises, after, challenge, resync}
-use Rattle.milenage.specs.declared.autn.AutnAnswer.TheVariants.{SynchFailure}
+use Rattle.milenage.specs.Checking.{opened}
+use Rattle.milenage.specs.Home.{HomeRecord, challenge_of, challenged, home_record, is_home, is_sqn, last_sqn, resync_of, resynced, with_sqn}
+use Rattle.milenage.specs.HomeLaws.{AutsIsRight, CallsOnlyRaise, ChallengesRise, HomeCall, IsFresh, IsGiven, OnlyRises, after, challenge, resync}
 use Rattle.milenage.specs.declared.home.HomeRefusal.{HomeRefusal}
 use Rattle.milenage.specs.declared.home.HomeRefusal.TheVariants as refusals
-use Rattle.milenage.specs.declared.home.ResyncRefusal.{ResyncRefusal}
-use Rattle.milenage.specs.declared.home.ResyncRefusal.TheVariants as resync_refusals
 use Rattle.milenage.specs.declared.vector.Vector.{Vector}
 use Rattle.milenage.proofs.ChallengeLemmas.{auts_opens}
 use Rattle.milenage.proofs.HomeLemmas.{home_parts}

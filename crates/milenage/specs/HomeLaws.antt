@@ -1,7 +1,6 @@
 -- What a home network's calls change, and what its challenges are to those before.
-use Rattle.std.specs.Prelude.{◌≡◌, ◌<◌, ◌≤◌, ◌^◌, ◌+◌, ◌-◌, ℕ, true, false, List, [], ◌∷◌, length, max, Some, MatchOption, Result, Ok, Err}
+use Rattle.std.specs.Prelude.{◌≡◌, ◌<◌, ◌≤◌, ◌^◌, ◌-◌, ℕ, true, false, List, [], ◌∷◌, length, max, Some, MatchOption, Result, Ok, Err}
 use Rattle.std.specs.Str.{bytes_eq}
-use Rattle.milenage.specs.Autn.{vector}
 use Rattle.milenage.specs.Checking.{checked}
 use Rattle.milenage.specs.Home.{HomeRecord, challenge_of, challenged, home_record, is_home, resync_of, resynced}
 use Rattle.milenage.specs.declared.autn.AutnAnswer.TheVariants.{SynchFailure}

@@ -123,8 +123,8 @@ impl Home {
                 got: part(6, auts),
             });
         };
-        let sqn = max(subscriber.sqn, sqn_ms);
-        self.subscribers.set_sqn(supi, sqn);
+        let greater = max(subscriber.sqn, sqn_ms);
+        self.subscribers.set_sqn(supi, greater);
         Ok(())
     }
 }

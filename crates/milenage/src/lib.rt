@@ -1,8 +1,8 @@
 //! MILENAGE, the functions that a subscriber's K and OPc are used by (TS 35.206), and the authentication vectors and
-//! answers that are made with them (TS 33.102 clause 6.3).
+//! answers that are made with them (TS 33.102 clause 6.3). `Home` is what a home network keeps of its subscribers.
 //!
-//! No call takes memory. None of them runs in a time that is independent of its arguments. The types that hold keys have no
-//! `Debug`, so that none is printed by oversight.
+//! No call takes memory but `Home::new`, `HomeList::push` and the copies of both. None of them runs in a time that is
+//! independent of its arguments. The types that hold keys have no `Debug`, so that none is printed by oversight.
 #![tactic(auto)]
 
 mod autn;

@@ -87,8 +87,8 @@ impl HomeList {
     ///
     /// # Errors
     ///
-    /// `Known` exactly where the list has its SUPI, else `Full` exactly where it has 64 subscribers, else perhaps `Memory`. The list is then
-    /// as it was.
+    /// `Known` exactly where the list has its SUPI, else `Full` exactly where it has 64 subscribers, else `Memory` where there is
+    /// none. The list is then as it was.
     #[tactic(auto, using(crate::proofs::HomeLemmas::home_pushed))]
     pub fn push(&mut self, subscriber: HomeSubscriber) -> Result<(), HomeListRefusal>
         ensures { Pushes result subscriber self.old self.new }
