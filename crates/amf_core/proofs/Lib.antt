@@ -1,2 +1,2 @@
 pub mod Sqns
-pub mod Unopened
+pub mod Taking

@@ -10,7 +10,7 @@ use Rattle.nas_timers.specs.declared.timer_id.TimerId.TheVariants.{T3550}
 use Rattle.mm_messages.specs.declared.message.Mm.TheVariants.{RegistrationReject}
 use Rattle.mm_messages.specs.declared.registration.RegistrationType.{RegistrationType}
 use Rattle.mm_messages.specs.declared.registration.RegistrationType.TheVariants.{Initial, Mobility, Periodic, Emergency}
-use Rattle.amf_core.specs.Challenges.{idle, stopped}
+use Rattle.amf_core.specs.Challenges.{ended}
 use Rattle.amf_core.specs.declared.config.Configured.{Configured}
 use Rattle.amf_core.specs.Drafts.{with_next_tmsi}
 use Rattle.amf_core.specs.Naming.{is_any, is_guti}
@@ -75,10 +75,12 @@ offered number r q challenge s w =
     acceptance_put number a (opened_acceptance a q.guti challenge s) (tmsi_taken w)
 
 -- The registration goes on under the context that has just been taken into use. Where no 5G-TMSI is left it is rejected (111).
+abbrev pub registration_granted : ℕ → Request → Whole → Challenge → Subscriber → Work → Work
+registration_granted number r q challenge s w =
+    when nat_lt (tmsi_of w) (2 ^ 32) then offered number r q challenge s w else answer_for s number (RegistrationReject 111) w
+
 unfoldable pub registration_goes_on : ℕ → Request → Whole → SecurityContext → Subscriber → Work → Work
-registration_goes_on number r q context s w =
-    when nat_lt (tmsi_of w) (2 ^ 32) then offered number r q context.challenge s (released q s w)
-    else answer_for s number (RegistrationReject 111) (released q s w)
+registration_goes_on number r q context s w = registration_granted number r q context.challenge s (released q s w)
 
 -- REGISTRATION COMPLETE under the challenge that the 5G-GUTI was offered under: it is kept alone. The acceptance ends, if it is still
 -- open; another procedure goes on.
@@ -86,7 +88,7 @@ abbrev pub is_challenge : Challenge → Challenge → Bool
 is_challenge one other = one.sqn == other.sqn && bytes_eq one.rand other.rand
 
 abbrev pub acceptance_ended : Procedure → Subscriber → Work → Work
-acceptance_ended (procedures.Accepting a) s w = put (idle s) (stopped s w)
+acceptance_ended (procedures.Accepting a) s w = ended s w
 acceptance_ended procedures.Idle s w = put s w
 acceptance_ended (procedures.Challenging c) s w = put s w
 acceptance_ended (procedures.Deregistering d) s w = put s w

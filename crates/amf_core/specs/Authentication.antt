@@ -59,10 +59,12 @@ abbrev pub is_expected : Option (List ℕ) → AuthenticationValues → Bool
 is_expected res_star a = per res_star false (λ (octets : List ℕ). bytes_eq octets a.res_star)
 
 -- AUTHENTICATION RESPONSE
+abbrev pub answered : ℕ → Option (List ℕ) → Asking → Subscriber → Work → Work
+answered number res_star o s w =
+    when is_expected res_star o.auth then mode_commanded o s w else authentication_rejected number s w
+
 unfoldable pub responded : ℕ → Option (List ℕ) → Subscriber → Work → Work
-responded number res_star s w =
-    per (asking_on number s.procedure) w (λ (o : Asking).
-    when is_expected res_star o.auth then mode_commanded o s w else authentication_rejected number s w)
+responded number res_star s w = per (asking_on number s.procedure) w (λ (o : Asking). answered number res_star o s w)
 
 -- A challenge takes the place of another, for the same purpose: for a registration on the same link, for a command on the link that the
 -- subscriber has by now.

@@ -137,8 +137,11 @@ abbrev pub VectorFits : Result Vector HomeRefusal → Type 0
 VectorFits (Ok v) = v.sqn < 2 ^ 48
 VectorFits (Err refusal) = Unit {0}
 
--- A challenge starts, whatever was open ends.
-unfoldable pub challenge : Purpose → Option ℕ → Option (List ℕ) → Subscriber → Work → Work
-challenge purpose link capability s w =
+-- A challenge starts where nothing is open. Whatever was open ends.
+abbrev pub challenge_next : Purpose → Option ℕ → Option (List ℕ) → Subscriber → Work → Work
+challenge_next purpose link capability s w =
     by_vector (challenge_of s.supi w.rand (home_of w)) purpose link capability s
-    (put_home (challenged s.supi w.rand (home_of w)) (stopped s w))
+    (put_home (challenged s.supi w.rand (home_of w)) w)
+
+unfoldable pub challenge : Purpose → Option ℕ → Option (List ℕ) → Subscriber → Work → Work
+challenge purpose link capability s w = challenge_next purpose link capability s (stopped s w)

@@ -44,41 +44,40 @@ pub record Passage : Type 0 where
   pub message : List ℕ
 
 -- The link of a message that passed becomes the subscriber's.
-abbrev pub passed_in_use : ℕ → SecurityContext → Opened → Subscriber → Check
-passed_in_use number context o s = record {
-  subscriber = record s { in_use = Some (with_count o.count context); link = Some number };
+abbrev pub passed_in_use : ℕ → SecurityContext → ℕ → Subscriber → Check
+passed_in_use number context count s = record {
+  subscriber = record s { in_use = Some (with_count count context); link = Some number };
   challenge = context.challenge;
   is_pending = false;
-  count = o.count;
+  count = count;
 }
 
 unfoldable pub checked_in_use : ℕ → List ℕ → Subscriber → Option Passage
 checked_in_use number octets s =
     per s.in_use None (λ (context : SecurityContext).
-    per (opened context octets) None (λ (o : Opened). Some (record { check = passed_in_use number context o s; message = o.message })))
+    per (opened context octets) None (λ (o : Opened). Some (record { check = passed_in_use number context o.count s; message = o.message })))
 
 abbrev pub counted_mode : Commanding → ℕ → Challenging
 counted_mode m count = record m.challenging { phase = Mode (with_count count m.context) }
 
-abbrev pub passed_pending : ℕ → Commanding → Opened → Subscriber → Check
-passed_pending number m o s = record {
-  subscriber = record s { procedure = procedures.Challenging (counted_mode m o.count); link = Some number };
+abbrev pub passed_pending : ℕ → Commanding → ℕ → Subscriber → Check
+passed_pending number m count s = record {
+  subscriber = record s { procedure = procedures.Challenging (counted_mode m count); link = Some number };
   challenge = m.context.challenge;
   is_pending = true;
-  count = o.count;
+  count = count;
 }
 
 unfoldable pub checked_pending : ℕ → List ℕ → Subscriber → Option Passage
 checked_pending number octets s =
     per (commanding_on number s.procedure) None (λ (m : Commanding).
-    per (opened m.context octets) None (λ (o : Opened). Some (record { check = passed_pending number m o s; message = o.message })))
-
--- header type 4: the context that was commanded on this link, then the one in use
-abbrev pub checked_new : ℕ → List ℕ → Subscriber → Option Passage
-checked_new number octets s = per (checked_pending number octets s) (checked_in_use number octets s) (λ (p : Passage). Some p)
+    per (opened m.context octets) None (λ (o : Opened). Some (record { check = passed_pending number m o.count s; message = o.message })))
 
 -- A message that passed takes its count, and makes its link secure and its subscriber that of the link.
+abbrev pub link_passed : ℕ → List ℕ → Work → Work
+link_passed number supi w = put_link (record (link_of number w) { secure = true; supi = Some supi }) w
+
 abbrev pub noted : ℕ → Check → Work → Work
 noted number c w =
     tell (Passed (record { supi = c.subscriber.supi; challenge = c.challenge; count = c.count }))
-    (put_link (record (link_of number w) { secure = true; supi = Some c.subscriber.supi }) (put c.subscriber w))
+    (link_passed number c.subscriber.supi (put c.subscriber w))

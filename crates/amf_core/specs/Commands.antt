@@ -7,7 +7,7 @@ use Rattle.milenage.specs.Home.{challenge_of}
 use Rattle.milenage.specs.declared.home.HomeRefusal.{HomeRefusal}
 use Rattle.milenage.specs.declared.home.HomeRefusal.TheVariants as homes
 use Rattle.milenage.specs.declared.vector.Vector.{Vector}
-use Rattle.amf_core.specs.Challenges.{challenge}
+use Rattle.amf_core.specs.Challenges.{challenge_next}
 use Rattle.amf_core.specs.Deregistration.{deregistration_put}
 use Rattle.amf_core.specs.State.{word_of}
 use Rattle.amf_core.specs.Work.{home_of, subscriber}
@@ -38,8 +38,8 @@ may_begin s = is_registered (word_of s) && is_idle s.procedure
 -- To authenticate it, on the link that it has: where a sequence number is left.
 abbrev pub by_sqn : Result Vector HomeRefusal → Subscriber → Work → Result Work AmfRefusal
 by_sqn (Err (homes.SqnSpent n)) s w = Err (SqnSpent n)
-by_sqn (Err homes.Unknown) s w = Ok (challenge Command s.link None s w)
-by_sqn (Ok v) s w = Ok (challenge Command s.link None s w)
+by_sqn (Err homes.Unknown) s w = Ok (challenge_next Command s.link None s w)
+by_sqn (Ok v) s w = Ok (challenge_next Command s.link None s w)
 
 abbrev pub authenticated : Subscriber → Work → Result Work AmfRefusal
 authenticated s w = when may_begin s then by_sqn (challenge_of s.supi w.rand (home_of w)) s w else Err (WrongState (word_of s))

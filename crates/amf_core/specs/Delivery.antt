@@ -14,7 +14,7 @@ use Rattle.mm_messages.specs.declared.message.MmRefusal.{MmRefusal}
 use Rattle.mm_messages.specs.declared.message.MmRefusal.TheVariants as refusals
 use Rattle.amf_core.specs.Acceptance.{registration_completed}
 use Rattle.amf_core.specs.Authentication.{authentication_failed, responded}
-use Rattle.amf_core.specs.Checks.{Passage, checked_in_use, checked_new, noted}
+use Rattle.amf_core.specs.Checks.{Passage, checked_in_use, checked_pending, noted}
 use Rattle.amf_core.specs.Deregistration.{deregistration_accepted, deregistration_requested}
 use Rattle.amf_core.specs.Identification.{identity_told}
 use Rattle.amf_core.specs.Naming.{kept_for}
@@ -155,14 +155,15 @@ sender number message w = per (named_inside message w) (subscriber_of_link numbe
 
 -- One that fails is discarded on a secure link. On any other a REGISTRATION REQUEST inside is taken as one that didn't pass, and a SERVICE
 -- REQUEST is rejected.
-abbrev pub failed_request : ℕ → Option Mm → Work → Work
-failed_request number (Some (RegistrationRequest registration ksi identity capability told)) w =
+abbrev pub failed_request : ℕ → Mm → Work → Work
+failed_request number (RegistrationRequest registration ksi identity capability told) w =
     registration_requested number None registration ksi identity capability told w
-failed_request number (Some (ServiceRequest ksi service_type identity told)) w = service_refused number w
+failed_request number (ServiceRequest ksi service_type identity told) w = service_refused number w
 failed_request number message w = w
 
 abbrev pub failed : ℕ → Option Mm → Work → Work
-failed number message w = when (link_of number w).secure then w else failed_request number message w
+failed number message w =
+    when (link_of number w).secure then w else per message w (λ (m : Mm). failed_request number m w)
 
 abbrev pub check_of : Option Subscriber → ℕ → List ℕ → Option Passage
 check_of s number octets = per s None (λ (x : Subscriber). checked_in_use number octets x)
@@ -174,15 +175,21 @@ integrity_protected_with message number octets w =
 unfoldable pub integrity_protected : ℕ → List ℕ → Work → Work
 integrity_protected number octets w = integrity_protected_with (message_of (mm_in (drop 7 octets))) number octets w
 
--- header types 2 and 4
+-- header type 2
 unfoldable pub ciphered : ℕ → List ℕ → Work → Work
 ciphered number octets w =
     per (check_of (subscriber_of_link number w) number octets) w (λ (p : Passage). passing number p w)
 
+-- header type 4: under the context that was commanded on this link, then under the one in use
+abbrev pub ciphered_for : ℕ → List ℕ → Subscriber → Work → Work
+ciphered_for number octets s w = per (checked_in_use number octets s) w (λ (p : Passage). passing number p w)
+
+abbrev pub under_either : ℕ → List ℕ → Subscriber → Work → Work
+under_either number octets s w =
+    per (checked_pending number octets s) (ciphered_for number octets s w) (λ (p : Passage). passing number p w)
+
 unfoldable pub under_new_context : ℕ → List ℕ → Work → Work
-under_new_context number octets w =
-    per (subscriber_of_link number w) w (λ (s : Subscriber).
-    per (checked_new number octets s) w (λ (p : Passage). passing number p w))
+under_new_context number octets w = per (subscriber_of_link number w) w (λ (s : Subscriber). under_either number octets s w)
 
 -- 5GMM's extended protocol discriminator (clause 9.2), and the security header type
 abbrev pub is_mm : List ℕ → Bool

@@ -6,10 +6,18 @@ abbrev pub found : {A : Type 0} → (A → Bool) → List A → Option A
 found is [] = None
 found is (x ∷ xs) = if is x then Some x else found is xs
 
--- a record as the first of these that has its key has it by now, and each record so
+-- the first of these records that has the key of another
+abbrev pub newest : {A : Type 0} → (A → A → Bool) → List A → A → Option A
+newest same [] x = None
+newest same (y ∷ ys) x = if same y x then Some y else newest same ys x
+
+-- a record as it is by now, and each record so
+abbrev pub or_kept : {A : Type 0} → Option A → A → A
+or_kept None x = x
+or_kept (Some y) x = y
+
 abbrev pub current : {A : Type 0} → (A → A → Bool) → List A → A → A
-current same [] x = x
-current same (y ∷ ys) x = if same y x then y else current same ys x
+current same ys x = or_kept (newest same ys x) x
 
 abbrev pub all_current : {A : Type 0} → (A → A → Bool) → List A → List A → List A
 all_current same ys [] = []

@@ -77,7 +77,10 @@ in_use context s = record s { procedure = procedures.Idle; in_use = Some context
 abbrev pub switched : Commanding → Subscriber → Work → Work
 switched o s w = ask Switched s (put (in_use o.context s) (stopped s w))
 
+abbrev pub completed : ℕ → Option (List ℕ) → Commanding → Subscriber → Work → Work
+completed number message o s w =
+    goes_on o.challenging.purpose (whole_in message s) number o.context (in_use o.context s) (switched o s w)
+
 unfoldable pub mode_completed : ℕ → Option (List ℕ) → Subscriber → Work → Work
 mode_completed number message s w =
-    per (commanding_of s.procedure) w (λ (o : Commanding).
-    goes_on o.challenging.purpose (whole_in message s) number o.context (in_use o.context s) (switched o s w))
+    per (commanding_of s.procedure) w (λ (o : Commanding). completed number message o s w)

@@ -1,5 +1,5 @@
 -- What an AMF keeps between two events (TS 24.501 clause 5.1.3.2.3).
-use Rattle.std.specs.Prelude.{ℕ, zero, suc, ◌==◌, Bool, true, false, List, [], ◌∷◌, map, Option, Some, None, option_map, if◌then◌else◌}
+use Rattle.std.specs.Prelude.{ℕ, zero, suc, ◌+◌, ◌==◌, Bool, true, false, List, [], ◌∷◌, map, Option, Some, None, option_map, if◌then◌else◌}
 use Rattle.std.specs.Str.{bytes_eq}
 use Rattle.nas_base.specs.Branches.{per}
 use Rattle.nas_base.specs.declared.state_words.AmfWord.{AmfWord}
@@ -70,7 +70,7 @@ unused number = record { number = number; secure = false; supi = None; waiting =
 -- the 64 links, numbered from 1
 abbrev pub numbered_from : ℕ → ℕ → List Link
 numbered_from zero first = []
-numbered_from (suc n) first = unused first ∷ numbered_from n (suc first)
+numbered_from (suc n) first = unused first ∷ numbered_from n (first + 1)
 
 -- before any event
 abbrev pub first : AmfBeginnings → AmfState

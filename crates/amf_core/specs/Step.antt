@@ -1,7 +1,6 @@
 -- One step of an AMF: what comes in, by its row, and what goes out.
 use Rattle.std.specs.Prelude.{◌≡◌, ℕ, List, [], Result, Ok, Err}
 use Rattle.milenage.specs.Home.{HomeRecord}
-use Rattle.nas_base.specs.declared.memory.Memory.{Memory}
 use Rattle.amf_core.specs.Commands.{authenticate, deregister}
 use Rattle.amf_core.specs.Delivery.{brought_up}
 use Rattle.amf_core.specs.Changes.{changed, home_now, unchanged}
@@ -79,8 +78,3 @@ Follows a home (Err refusals.Memory) step = Unit {0}
 Follows a home (Err refusals.UnknownSupi) step = step ≡ Err refusals.UnknownSupi
 Follows a home (Err (refusals.WrongState word)) step = step ≡ Err (refusals.WrongState word)
 Follows a home (Err (refusals.SqnSpent n)) step = step ≡ Err (refusals.SqnSpent n)
-
--- the changes that are left, and what goes out
-abbrev pub Leaves : Work → Result Done Memory → Type 0
-Leaves w (Ok done) = ((framed_of w).amf.changes ≡ done.changes) × ((framed_of w).outs ≡ done.outs)
-Leaves w (Err wanting) = Unit {0}

@@ -1,8 +1,8 @@
 //! A registration that is accepted.
 ghost use Rattle.std.specs.Prelude.{◌≡◌, ◌<◌, ◌^◌, OnOk};
-ghost use Rattle.amf_core.specs.Acceptance.{acceptance_ended, acceptance_put, confirmed, is_challenge, is_initial, kept_with, new_guti, offered, opened_acceptance, registration_completed, registration_goes_on, released, told_sessions};
+ghost use Rattle.amf_core.specs.Work.{config_of};
+ghost use Rattle.amf_core.specs.Acceptance.{acceptance_ended, acceptance_put, confirmed, is_challenge, is_initial, kept_with, new_guti, offered, opened_acceptance, registration_completed, registration_goes_on, registration_granted, released, tmsi_of, tmsi_taken, told_sessions};
 
-use crate::challenges::idle;
 use crate::subscriber::copied_offer;
 use crate::work::Work;
 use crate::{
@@ -145,6 +145,18 @@ impl<'a> Work<'a> {
         self.start(TimerId::T3550, &s)
     }
 
+    // A new 5G-GUTI, whose 5G-TMSI is then taken.
+    fn next_guti(&mut self) -> Guti
+        requires { self.old.amf.changes.tmsi < 2 ^ 32 }
+        ensures guti { result ≡ new_guti (config_of self.old) (tmsi_of self.old) }
+        ensures taken { self.new ≡ tmsi_taken self.old }
+    {
+        let tmsi = self.amf.tmsi() as u32;
+        let guti = new_guti(self.amf.config(), tmsi);
+        self.amf.take_tmsi();
+        guti
+    }
+
     // A new 5G-GUTI is offered.
     fn offer(
         &mut self,
@@ -157,33 +169,31 @@ impl<'a> Work<'a> {
         requires { self.old.amf.changes.tmsi < 2 ^ 32 }
         ensures { OnOk result (self.new ≡ offered number request.now whole.now challenge s self.old) }
     {
+        let guti = self.next_guti();
         let accepting = Accepting {
             request: request.copy(),
-            guti: new_guti(self.amf.config(), self.amf.tmsi() as u32),
+            guti,
             status: told_sessions(whole, &s),
             sendings: 1,
         };
-        self.amf.take_tmsi();
         let s = opened_acceptance(&accepting, &whole.guti, challenge, s);
         self.put_acceptance(number, &accepting, s)
     }
 
-    /// A registration goes on under the context that has just been taken into use.
-    #[tactic(auto, unfolding(crate::specs::Acceptance::registration_goes_on, nas_base::specs::Branches::chosen))]
-    pub fn registration_goes_on(
+    // The registration is granted, where a 5G-TMSI is left.
+    #[tactic(auto, unfolding(nas_base::specs::Branches::chosen))]
+    fn grant(
         &mut self,
         number: u16,
         request: &Request,
         whole: &Whole,
-        context: &Context,
+        challenge: Challenge,
         s: Subscriber,
     ) -> Result<(), Memory>
-        ensures { OnOk result (self.new ≡ registration_goes_on number request.now whole.now context.now s self.old) }
+        ensures { OnOk result (self.new ≡ registration_granted number request.now whole.now challenge s self.old) }
     {
-        let is_left = self.amf.tmsi() < NO_TMSI;
-        self.release(whole, &s)?;
-        if is_left {
-            return self.offer(number, request, whole, context.challenge, s);
+        if self.amf.tmsi() < NO_TMSI {
+            return self.offer(number, request, whole, challenge, s);
         }
         self.answer_for(
             &s,
@@ -194,15 +204,28 @@ impl<'a> Work<'a> {
         )
     }
 
+    /// A registration goes on under the context that has just been taken into use.
+    #[tactic(auto, unfolding(crate::specs::Acceptance::registration_goes_on))]
+    pub fn registration_goes_on(
+        &mut self,
+        number: u16,
+        request: &Request,
+        whole: &Whole,
+        context: &Context,
+        s: Subscriber,
+    ) -> Result<(), Memory>
+        ensures { OnOk result (self.new ≡ registration_goes_on number request.now whole.now context.now s self.old) }
+    {
+        self.release(whole, &s)?;
+        self.grant(number, request, whole, context.challenge, s)
+    }
+
     // The acceptance ends, if it is still open.
     fn end_acceptance(&mut self, s: Subscriber) -> Result<(), Memory>
         ensures { OnOk result (self.new ≡ acceptance_ended s.procedure s self.old) }
     {
         match &s.procedure {
-            Procedure::Accepting(_) => {
-                self.stop_open(&s)?;
-                self.put(idle(s))
-            }
+            Procedure::Accepting(_) => self.end_open(s),
             Procedure::Idle | Procedure::Challenging(_) | Procedure::Deregistering(_) => {
                 self.put(s)
             }

@@ -1,8 +1,8 @@
 //! The AMF: what it keeps.
 ghost use Rattle.std.specs.Prelude.{◌≡◌, map, option_map, IfOk};
 ghost use Rattle.amf_core.specs.Changes.{changed};
-ghost use Rattle.amf_core.specs.State.{first, has_number, numbered_from, subscriber_in, unknown_yet, view_in};
-ghost use Rattle.amf_core.specs.Keyed.{all_current, found};
+ghost use Rattle.amf_core.specs.State.{first, numbered_from, subscriber_in, unknown_yet, view_in};
+ghost use Rattle.amf_core.specs.Keyed.{all_current, current, newest};
 ghost use Rattle.amf_core.specs.State.{is_same_link, is_same_subscriber};
 
 use crate::changes::Changes;
@@ -91,46 +91,74 @@ impl Amf {
     }
 }
 
-// Each record becomes what it is by now.
-fn take_subscribers(records: &mut [Subscriber], changed: &[Subscriber])
-    ensures { records.new ≡ all_current is_same_subscriber changed.now records.old }
+/// The newest of these records that is of the same subscriber.
+pub fn newest_subscriber<'a>(changed: &'a [Subscriber], kept: &Subscriber) -> Option<&'a Subscriber>
+    ensures { option_map (λ s. s.now) result ≡ newest is_same_subscriber changed.now kept.now }
 {
-    for record in records.iter_mut() {
-        if let Some(by_now) = record_of(changed, record.supi.as_slice()) {
-            *record = by_now.copy();
-        }
-    }
-}
-
-// The same for links.
-fn take_links(records: &mut [Link], changed: &[Link])
-    ensures { records.new ≡ all_current is_same_link changed.now records.old }
-{
-    for record in records.iter_mut() {
-        if let Some(by_now) = link_of(changed, record.number) {
-            *record = by_now.copy();
-        }
-    }
-}
-
-/// The record of a SUPI, if there is one.
-pub fn record_of<'a>(records: &'a [Subscriber], supi: &[u8]) -> Option<&'a Subscriber>
-    ensures { option_map (λ s. s.now) result ≡ subscriber_in supi.now records.now }
-{
-    for record in records {
-        if record.supi.as_slice() == supi {
+    for record in changed {
+        if kept.supi.as_slice() == record.supi.as_slice() {
             return Some(record);
         }
     }
     None
 }
 
-/// The record of a link, if there is one.
-pub fn link_of(records: &[Link], number: u16) -> Option<&Link>
-    ensures { option_map (λ l. l.now) result ≡ found (has_number number) records.now }
+/// The newest of these records that is of the same link.
+pub fn newest_link<'a>(changed: &'a [Link], kept: &Link) -> Option<&'a Link>
+    ensures { option_map (λ l. l.now) result ≡ newest is_same_link changed.now kept.now }
+{
+    for record in changed {
+        if kept.number == record.number {
+            return Some(record);
+        }
+    }
+    None
+}
+
+// A record becomes what it is by now. One that didn't change isn't copied.
+fn take_subscriber(record: &mut Subscriber, changed: &[Subscriber])
+    ensures { record.new ≡ current is_same_subscriber changed.now record.old }
+{
+    if let Some(by_now) = newest_subscriber(changed, record) {
+        *record = by_now.copy();
+    }
+}
+
+// The same for a link.
+fn take_link(record: &mut Link, changed: &[Link])
+    ensures { record.new ≡ current is_same_link changed.now record.old }
+{
+    if let Some(by_now) = newest_link(changed, record) {
+        *record = by_now.copy();
+    }
+}
+
+// Each record becomes what it is by now.
+#[tactic(auto, using(crate::proofs::Taking::taken_step))]
+fn take_subscribers(records: &mut [Subscriber], changed: &[Subscriber])
+    ensures { records.new ≡ all_current is_same_subscriber changed.now records.old }
+{
+    for record in records.iter_mut() {
+        take_subscriber(record, changed);
+    }
+}
+
+// The same for links.
+#[tactic(auto, using(crate::proofs::Taking::taken_step))]
+fn take_links(records: &mut [Link], changed: &[Link])
+    ensures { records.new ≡ all_current is_same_link changed.now records.old }
+{
+    for record in records.iter_mut() {
+        take_link(record, changed);
+    }
+}
+
+// The record of a SUPI, if there is one.
+fn record_of<'a>(records: &'a [Subscriber], supi: &[u8]) -> Option<&'a Subscriber>
+    ensures { option_map (λ s. s.now) result ≡ subscriber_in supi.now records.now }
 {
     for record in records {
-        if record.number == number {
+        if record.supi.as_slice() == supi {
             return Some(record);
         }
     }
@@ -151,6 +179,7 @@ fn subscribers_of(alloc: Global, configured: &[AmfSubscriber]) -> Result<Vec<Sub
 }
 
 // The records of links that nothing was exchanged on.
+#[tactic(auto, using(crate::proofs::Taking::numbered_step))]
 fn unused_links(alloc: Global) -> Result<Vec<Link>, Memory>
     ensures { IfOk result (λ records. records.items ≡ numbered_from 64 1) }
 {

@@ -1,6 +1,6 @@
 //! The answers to AUTHENTICATION REQUEST.
 ghost use Rattle.std.specs.Prelude.{◌≡◌, OnOk};
-ghost use Rattle.amf_core.specs.Authentication.{asking_on, authentication_failed, authentication_rejected, challenged_again, commanding, failed_by, is_expected, made, mode_commanded, next_link, responded, resynchronised};
+ghost use Rattle.amf_core.specs.Authentication.{answered, asking_on, authentication_failed, authentication_rejected, challenged_again, commanding, failed_by, is_expected, made, mode_commanded, next_link, responded, resynchronised};
 
 use crate::challenges::challenge_open;
 use crate::registration::is_on;
@@ -112,8 +112,25 @@ impl<'a> Work<'a> {
         self.answer_for(&s, number, Mm::AuthenticationReject)
     }
 
+    // An answer to a challenge that waits for it.
+    #[tactic(auto, unfolding(nas_base::specs::Branches::chosen))]
+    fn answered(
+        &mut self,
+        number: u16,
+        res_star: &Option<[u8; 16]>,
+        asking: &Asking,
+        s: Subscriber,
+    ) -> Result<(), Memory>
+        ensures { OnOk result (self.new ≡ answered number res_star.now asking.now s self.old) }
+    {
+        if is_expected(res_star, &asking.auth) {
+            return self.command_mode(asking, s);
+        }
+        self.reject_authentication(number, s)
+    }
+
     /// AUTHENTICATION RESPONSE.
-    #[tactic(auto, unfolding(crate::specs::Authentication::responded, nas_base::specs::Branches::chosen, nas_base::specs::Branches::per))]
+    #[tactic(auto, unfolding(crate::specs::Authentication::responded, nas_base::specs::Branches::per))]
     pub fn responded(
         &mut self,
         number: u16,
@@ -122,13 +139,10 @@ impl<'a> Work<'a> {
     ) -> Result<(), Memory>
         ensures { OnOk result (self.new ≡ responded number res_star.now s self.old) }
     {
-        let Some(asking) = asking_on(number, &s.procedure) else {
-            return Ok(());
-        };
-        if is_expected(res_star, &asking.auth) {
-            return self.command_mode(&asking, s);
+        match asking_on(number, &s.procedure) {
+            Some(asking) => self.answered(number, res_star, &asking, s),
+            None => Ok(()),
         }
-        self.reject_authentication(number, s)
     }
 
     // Another challenge for the same purpose.

@@ -1,6 +1,6 @@
 //! Octets that pass the check of a context, and what an AMF notes of it.
-ghost use Rattle.std.specs.Prelude.{◌≡◌, ℕ, List, [], None, OnOk, option_map};
-ghost use Rattle.amf_core.specs.Checks.{checked_in_use, checked_new, checked_pending, counted_mode, noted, opened, passed_in_use, passed_pending, with_count};
+ghost use Rattle.std.specs.Prelude.{◌≡◌, [], OnOk, option_map};
+ghost use Rattle.amf_core.specs.Checks.{checked_in_use, checked_pending, counted_mode, noted, opened, passed_in_use, passed_pending, with_count};
 
 use crate::security_mode::{Commanding, commanding_on};
 use crate::work::Work;
@@ -19,11 +19,10 @@ pub struct Check {
 }
 
 // The count of octets that pass, whose plain message is then written.
-#[tactic(auto, using(crate::proofs::Unopened::nothing_written), unfolding(crate::specs::Checks::opened))]
+#[tactic(auto, unfolding(crate::specs::Checks::opened))]
 fn open(context: &Context, octets: &[u8], out: &mut Writer) -> Option<Count>
     requires { out.old ≡ [] }
-    ensures value { option_map (λ count. record { count = count; message = out.new }) result ≡ opened context.now octets.now }
-    ensures refused { result ≡ None → out.new ≡ [] }
+    ensures { option_map (λ count. record { count = count; message = out.new }) result ≡ opened context.now octets.now }
 {
     match unprotect(context, Dir::Up, octets, out) {
         Verdict::Passed { count, header: _ } => Some(count),
@@ -46,7 +45,7 @@ fn with_count(count: Count, context: Context) -> Context
 
 // What passed under the context in use.
 fn passed_in_use(number: u16, context: &Context, count: Count, s: Subscriber) -> Check
-    ensures { (message : List ℕ) → result ≡ passed_in_use number context.now (record { count = count; message = message }) s }
+    ensures { result ≡ passed_in_use number context.now count s }
 {
     Check {
         subscriber: Subscriber {
@@ -78,7 +77,7 @@ pub fn checked_in_use(
 
 // What passed under the context that was commanded.
 fn passed_pending(number: u16, commanding: &Commanding, count: Count, s: Subscriber) -> Check
-    ensures { (message : List ℕ) → result ≡ passed_pending number commanding.now (record { count = count; message = message }) s }
+    ensures { result ≡ passed_pending number commanding.now count s }
 {
     let challenging = Challenging {
         purpose: commanding.challenging.purpose.copy(),
@@ -98,28 +97,20 @@ fn passed_pending(number: u16, commanding: &Commanding, count: Count, s: Subscri
     }
 }
 
-// Octets under the context that was commanded on this link.
+/// Octets under the context that was commanded on this link, whose plain message is written where they pass.
 #[tactic(auto, unfolding(crate::specs::Checks::checked_pending, nas_base::specs::Branches::per))]
-fn checked_pending(number: u16, octets: &[u8], s: &Subscriber, out: &mut Writer) -> Option<Check>
+pub fn checked_pending(
+    number: u16,
+    octets: &[u8],
+    s: &Subscriber,
+    out: &mut Writer,
+) -> Option<Check>
     requires { out.old ≡ [] }
-    ensures value { option_map (λ check. record { check = check; message = out.new }) result ≡ checked_pending number octets.now s.now }
-    ensures refused { result ≡ None → out.new ≡ [] }
+    ensures { option_map (λ check. record { check = check; message = out.new }) result ≡ checked_pending number octets.now s.now }
 {
     let commanding = commanding_on(number, &s.procedure)?;
     let count = open(&commanding.context, octets, out)?;
     Some(passed_pending(number, &commanding, count, s.copy()))
-}
-
-/// Octets of header type 4: under the context that was commanded on this link, then under the one in use.
-#[tactic(auto, unfolding(nas_base::specs::Branches::per))]
-pub fn checked_new(number: u16, octets: &[u8], s: Subscriber, out: &mut Writer) -> Option<Check>
-    requires { out.old ≡ [] }
-    ensures { option_map (λ check. record { check = check; message = out.new }) result ≡ checked_new number octets.now s }
-{
-    match checked_pending(number, octets, &s, out) {
-        Some(check) => Some(check),
-        None => checked_in_use(number, octets, s, out),
-    }
 }
 
 impl<'a> Work<'a> {

@@ -39,14 +39,13 @@ impl<'a> Work<'a> {
     }
 
     // The same of a subscriber that is kept.
-    #[tactic(auto, unfolding(crate::specs::Challenges::challenge, nas_base::specs::Branches::chosen))]
+    #[tactic(auto, unfolding(nas_base::specs::Branches::chosen))]
     fn authenticate_one(&mut self, alloc: Global, s: Subscriber) -> Result<(), AmfRefusal>
         ensures { Works self.new result (authenticated s self.old) }
     {
         if !may_begin(&s) {
             return Err(AmfRefusal::WrongState { state: s.word() });
         }
-        unrefused(self.stop_open(&s))?;
         let rand = self.rand;
         let answer = match self.amf.challenge(alloc, &s.supi, &rand) {
             Ok(answer) => answer,

@@ -1,9 +1,9 @@
 //! What an AMF makes of octets that come up a link.
 ghost use Rattle.std.specs.Prelude.{◌≡◌, [], drop, slice_index_or, IfOk, Ok, OnOk, option_map};
 ghost use Rattle.mm_messages.specs.Messages.{mm_in};
-ghost use Rattle.amf_core.specs.Delivery.{action, brought_up, by_table, check_of, ciphered, failed, freshened, integrity_protected, is_permitted_type, message_of, named_inside, passed, plain, received, sender, taken, taken_plain, under_new_context};
+ghost use Rattle.amf_core.specs.Delivery.{action, brought_up, by_table, check_of, ciphered, ciphered_for, failed, failed_request, freshened, integrity_protected, is_permitted_type, message_of, named_inside, passed, plain, received, sender, taken, taken_plain, under_either, under_new_context};
 
-use crate::checks::{Check, checked_in_use, checked_new};
+use crate::checks::{Check, checked_in_use, checked_pending};
 use crate::work::Work;
 use crate::Subscriber;
 use collision_rules::{Action, collide_amf, permitted_amf};
@@ -218,7 +218,7 @@ impl<'a> Work<'a> {
     }
 
     // A frame of header type 1 that failed.
-    #[tactic(auto, unfolding(nas_base::specs::Branches::chosen))]
+    #[tactic(auto, unfolding(nas_base::specs::Branches::chosen, nas_base::specs::Branches::per))]
     fn failed(&mut self, alloc: Global, number: u16, message: Option<Mm>) -> Result<(), Memory>
         ensures { OnOk result (self.new ≡ failed number message self.old) }
     {
@@ -226,21 +226,31 @@ impl<'a> Work<'a> {
             return Ok(());
         }
         match message {
-            Some(Mm::RegistrationRequest {
+            Some(message) => self.failed_request(alloc, number, message),
+            None => Ok(()),
+        }
+    }
+
+    // The request inside it.
+    fn failed_request(&mut self, alloc: Global, number: u16, message: Mm) -> Result<(), Memory>
+        ensures { OnOk result (self.new ≡ failed_request number message self.old) }
+    {
+        match message {
+            Mm::RegistrationRequest {
                 registration,
                 ksi,
                 identity,
                 capability,
                 status,
-            }) => self.registration_requested(
+            } => self.registration_requested(
                 alloc, number, &None, registration, ksi, identity, capability, status,
             ),
-            Some(Mm::ServiceRequest {
+            Mm::ServiceRequest {
                 ksi: _,
                 service_type: _,
                 identity: _,
                 status: _,
-            }) => self.service_refused(number),
+            } => { self.service_refused(number) }
             _ => Ok(()),
         }
     }
@@ -268,11 +278,43 @@ impl<'a> Work<'a> {
     ) -> Result<(), Memory>
         ensures { OnOk result (self.new ≡ under_new_context number octets.now self.old) }
     {
-        let Some(s) = self.subscriber_of_link(number) else {
-            return Ok(());
-        };
+        match self.subscriber_of_link(number) {
+            Some(s) => self.under_either(alloc, number, octets, s),
+            None => Ok(()),
+        }
+    }
+
+    // The same for a subscriber: under the context that was commanded on this link, then under the one in use.
+    #[tactic(auto, unfolding(nas_base::specs::Branches::per))]
+    fn under_either(
+        &mut self,
+        alloc: Global,
+        number: u16,
+        octets: &[u8],
+        s: Subscriber,
+    ) -> Result<(), Memory>
+        ensures { OnOk result (self.new ≡ under_either number octets.now s self.old) }
+    {
         let mut out = Writer::new();
-        match checked_new(number, octets, s, &mut out) {
+        match checked_pending(number, octets, &s, &mut out) {
+            Some(check) => self.passed(alloc, number, out.octets(), check),
+            None => self.ciphered_for(alloc, number, octets, s),
+        }
+    }
+
+    // The same under the context in use.
+    #[tactic(auto, unfolding(nas_base::specs::Branches::per))]
+    fn ciphered_for(
+        &mut self,
+        alloc: Global,
+        number: u16,
+        octets: &[u8],
+        s: Subscriber,
+    ) -> Result<(), Memory>
+        ensures { OnOk result (self.new ≡ ciphered_for number octets.now s self.old) }
+    {
+        let mut out = Writer::new();
+        match checked_in_use(number, octets, s, &mut out) {
             Some(check) => self.passed(alloc, number, out.octets(), check),
             None => Ok(()),
         }

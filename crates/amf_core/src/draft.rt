@@ -8,6 +8,7 @@ ghost use Rattle.amf_core.specs.Naming.{keeps_guti, keeps_stmsi};
 ghost use Rattle.amf_core.specs.State.{has_number, is_same_link, is_same_subscriber, link_in, subscriber_in};
 ghost use Rattle.milenage.specs.Home.{challenge_of, challenged};
 
+use crate::amf::{newest_link, newest_subscriber};
 use crate::changes::{Before, Changes};
 use crate::{Amf, Configured, Link, Subscriber};
 use milenage::{Home, HomeRefusal, Vector};
@@ -52,12 +53,10 @@ impl<'a> Draft<'a> {
     fn by_now<'b>(&'b self, kept: &'b Subscriber) -> &'b Subscriber
         ensures { result.now ≡ current is_same_subscriber self.now.changes.subscribers kept.now }
     {
-        for changed in self.changes.subscribers.as_slice() {
-            if kept.supi.as_slice() == changed.supi.as_slice() {
-                return changed;
-            }
+        match newest_subscriber(self.changes.subscribers.as_slice(), kept) {
+            Some(changed) => changed,
+            None => kept,
         }
-        kept
     }
 
     /// The record of a subscriber, by the digits of its SUPI.
@@ -116,12 +115,10 @@ impl<'a> Draft<'a> {
     fn link_by_now<'b>(&'b self, kept: &'b Link) -> &'b Link
         ensures { result.now ≡ current is_same_link self.now.changes.links kept.now }
     {
-        for changed in self.changes.links.as_slice() {
-            if kept.number == changed.number {
-                return changed;
-            }
+        match newest_link(self.changes.links.as_slice(), kept) {
+            Some(changed) => changed,
+            None => kept,
         }
-        kept
     }
 
     /// The record of a link.

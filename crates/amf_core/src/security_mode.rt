@@ -1,7 +1,7 @@
 //! The answers to SECURITY MODE COMMAND.
 ghost use Rattle.std.specs.Prelude.{◌≡◌, Ok, IfOk, OnOk};
 ghost use Rattle.mm_messages.specs.Messages.{mm_in};
-ghost use Rattle.amf_core.specs.SecurityMode.{commanding_of, commanding_on, goes_on, in_use, mode_completed, mode_rejected, switched, whole_by, whole_in, whole_of};
+ghost use Rattle.amf_core.specs.SecurityMode.{commanding_of, commanding_on, completed, goes_on, in_use, mode_completed, mode_rejected, switched, whole_by, whole_in, whole_of};
 
 use crate::acceptance::Whole;
 use crate::naming::suci_digits;
@@ -168,6 +168,29 @@ impl<'a> Work<'a> {
         }
     }
 
+    // The command was completed.
+    fn completed(
+        &mut self,
+        alloc: Global,
+        number: u16,
+        message: &Option<Octets>,
+        commanding: &Commanding,
+        s: Subscriber,
+    ) -> Result<(), Memory>
+        ensures { OnOk result (self.new ≡ completed number message.now commanding.now s self.old) }
+    {
+        let whole = whole_in(alloc, message, &s)?;
+        self.switch(commanding, &s)?;
+        let context = commanding.context;
+        self.go_on_with(
+            &commanding.challenging.purpose,
+            whole,
+            number,
+            &context,
+            in_use(context, s),
+        )
+    }
+
     /// SECURITY MODE COMPLETE under the context that was commanded.
     #[tactic(auto, unfolding(crate::specs::SecurityMode::mode_completed, nas_base::specs::Branches::per))]
     pub fn mode_completed(
@@ -179,18 +202,9 @@ impl<'a> Work<'a> {
     ) -> Result<(), Memory>
         ensures { OnOk result (self.new ≡ mode_completed number message.now s self.old) }
     {
-        let Some(commanding) = commanding_of(&s.procedure) else {
-            return Ok(());
-        };
-        let whole = whole_in(alloc, message, &s)?;
-        self.switch(&commanding, &s)?;
-        let context = commanding.context;
-        self.go_on_with(
-            &commanding.challenging.purpose,
-            whole,
-            number,
-            &context,
-            in_use(context, s),
-        )
+        match commanding_of(&s.procedure) {
+            Some(commanding) => self.completed(alloc, number, message, &commanding, s),
+            None => Ok(()),
+        }
     }
 }

@@ -3,7 +3,7 @@ ghost use Rattle.std.specs.Prelude.{◌≡◌, OnOk};
 ghost use Rattle.amf_core.specs.Changes.{home_now};
 ghost use Rattle.amf_core.specs.Events.{carried_down};
 ghost use Rattle.amf_core.specs.Outcome.{Works};
-ghost use Rattle.amf_core.specs.Step.{Follows, Leaves, Steps, step_of, worked};
+ghost use Rattle.amf_core.specs.Step.{Follows, Steps, step_of, worked};
 
 use crate::acts::Acts;
 use crate::commands::unrefused;
@@ -75,8 +75,15 @@ fn worked_on(
         acts: Acts::new(alloc),
     };
     work.by_input(alloc, input)?;
-    match work.end(alloc) {
-        Ok(done) => Ok(done),
+    let mut framing = Framed {
+        amf: work.amf,
+        outs: AmfOuts::new(alloc),
+    };
+    match framing.all(alloc, work.acts) {
+        Ok(()) => Ok(Done {
+            changes: framing.amf.changes,
+            outs: framing.outs,
+        }),
         Err(Memory) => Err(AmfRefusal::Memory),
     }
 }
@@ -118,20 +125,5 @@ impl<'a> Work<'a> {
             Ok(frame) => self.carry_down(supi, psi, frame),
             Err(_) => Err(Memory),
         }
-    }
-
-    // What was said is sent, and what is left is what changed.
-    fn end(self, alloc: Global) -> Result<Done, Memory>
-        ensures { Leaves self result }
-    {
-        let mut framing = Framed {
-            amf: self.amf,
-            outs: AmfOuts::new(alloc),
-        };
-        framing.all(alloc, self.acts)?;
-        Ok(Done {
-            changes: framing.amf.changes,
-            outs: framing.outs,
-        })
     }
 }
