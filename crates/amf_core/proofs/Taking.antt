@@ -18,7 +18,11 @@ taken_step same changed records goal i x more next told =
     grind (arith, common_steps, one, told)
 
 -- one more link is numbered
-pub numbered_step : (n : ℕ) → n < 65 → numbered_from (65 - n) n ≡ unused n ∷ numbered_from (65 - (n + 1)) (n + 1)
+numbered_step : (n : ℕ) → n < 65 → numbered_from (65 - n) n ≡ unused n ∷ numbered_from (65 - (n + 1)) (n + 1)
 numbered_step n more =
     let e : 65 - n ≡ suc (65 - (n + 1)) = omega arith in
     ap (λ m. numbered_from m n) e
+
+pub numbered_more : (records goal : List Link) (n : ℕ) → n < 65 → records ++ numbered_from (65 - n) n ≡ goal
+    → (records ++ unused n ∷ []) ++ numbered_from (65 - (n + 1)) (n + 1) ≡ goal
+numbered_more records goal n more told = grind (arith, common_steps, numbered_step n more, told)

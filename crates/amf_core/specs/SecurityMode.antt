@@ -35,7 +35,7 @@ abbrev pub commanding_in : Phase → Challenging → Option Commanding
 commanding_in (Auth a) c = None
 commanding_in (Mode context) c = Some (record { challenging = c; context = context })
 
-abbrev pub commanding_of : Procedure → Option Commanding
+unfoldable pub commanding_of : Procedure → Option Commanding
 commanding_of (procedures.Challenging c) = commanding_in c.phase c
 commanding_of procedures.Idle = None
 commanding_of (procedures.Accepting a) = None

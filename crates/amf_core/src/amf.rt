@@ -179,7 +179,7 @@ fn subscribers_of(alloc: Global, configured: &[AmfSubscriber]) -> Result<Vec<Sub
 }
 
 // The records of links that nothing was exchanged on.
-#[tactic(auto, using(crate::proofs::Taking::numbered_step))]
+#[tactic(auto, using(crate::proofs::Taking::numbered_more))]
 fn unused_links(alloc: Global) -> Result<Vec<Link>, Memory>
     ensures { IfOk result (λ records. records.items ≡ numbered_from 64 1) }
 {

@@ -1,9 +1,10 @@
 //! What an AMF is made with.
-ghost use Rattle.std.specs.Prelude.{◌≡◌, IfOk};
+ghost use Rattle.std.specs.Prelude.{◌≡◌, [], ◌∷◌, IfOk};
 
-use nas_base::{Plmn, Supi};
+use nas_base::{Memory, Plmn, Supi};
 use nas_elements::{Nssai, Timer3};
 use nas_timers::Durations;
+use std::alloc::Global;
 use std::marker::Model;
 
 /// A subscriber: the SUPI, and the slices that are subscribed.
@@ -29,6 +30,32 @@ impl Model for AmfSubscribers {
     ghost view = { λ s. s.items.items };
 
     ghost invariant = { λ s. are_subscribers s.items.items ≡ true };
+}
+
+impl AmfSubscribers {
+    /// None.
+    pub fn none(alloc: Global) -> AmfSubscribers
+        ensures { result ≡ [] }
+    {
+        AmfSubscribers {
+            items: Vec::new(alloc),
+        }
+    }
+
+    /// One alone.
+    ///
+    /// # Errors
+    ///
+    /// `Memory`.
+    pub fn one(alloc: Global, subscriber: AmfSubscriber) -> Result<AmfSubscribers, Memory>
+        ensures { IfOk result (λ subscribers. subscribers ≡ subscriber ∷ []) }
+    {
+        let mut items = Vec::new(alloc);
+        match items.push(subscriber) {
+            Ok(()) => Ok(AmfSubscribers { items }),
+            Err(_) => Err(Memory),
+        }
+    }
 }
 
 /// An AMF: its network, its region, set and pointer as 5G-GUTIs have them, the 5G-TMSI that is assigned first, 1 at least, the ciphering

@@ -28,6 +28,8 @@ mod security_mode;
 mod service;
 mod stepping;
 mod subscriber;
+#[cfg(test)]
+mod tests;
 mod transport;
 mod view;
 mod work;

@@ -22,6 +22,7 @@ pub struct Commanding {
 }
 
 /// The challenge whose context waits for the answer to its command.
+#[tactic(auto, unfolding(crate::specs::SecurityMode::commanding_of))]
 pub fn commanding_of(procedure: &Procedure) -> Option<Commanding>
     ensures { result ≡ commanding_of procedure.now }
 {

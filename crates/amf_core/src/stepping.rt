@@ -42,9 +42,10 @@ pub fn step(
     ensures { Steps amf.old amf.new home.old home.new result (step_of amf.old home.old now rand.now input.now) }
 {
     let done = worked_on(alloc, amf, home, now, rand, input)?;
-    amf.take_over(&done.changes);
-    take_home(home, done.changes.home);
-    Ok(done.outs)
+    let Done { changes, outs } = done;
+    amf.take_over(&changes);
+    take_home(home, changes.home);
+    Ok(outs)
 }
 
 // The home network becomes what it is by now.
