@@ -14,7 +14,7 @@ pub taken_step : {A : Type 0} (same : A → A → Bool) (changed records goal : 
     ≡ goal
 taken_step same changed records goal i x more next told =
     let one : all_current same changed (drop i records) ≡ current same changed x ∷ all_current same changed (drop (i + 1) records) =
-        ap (all_current same changed) next in
+    ap (all_current same changed) next in
     grind (arith, common_steps, one, told)
 
 -- one more link is numbered

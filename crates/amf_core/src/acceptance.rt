@@ -5,9 +5,7 @@ ghost use Rattle.amf_core.specs.Acceptance.{acceptance_ended, acceptance_put, co
 
 use crate::subscriber::copied_offer;
 use crate::work::Work;
-use crate::{
-    Accepting, Configured, Gutis, Offer, Procedure, Request, SmfAsk, Subscriber,
-};
+use crate::{Accepting, Configured, Gutis, Offer, Procedure, Request, SmfAsk, Subscriber};
 use mm_messages::{Mm, RegistrationType};
 use nas_base::Memory;
 use nas_base::mm_cause::PROTOCOL_ERROR_UNSPECIFIED;
@@ -32,9 +30,8 @@ fn is_initial(registration: RegistrationType) -> bool
 {
     match registration {
         RegistrationType::Initial => true,
-        RegistrationType::Mobility
-        | RegistrationType::Periodic
-        | RegistrationType::Emergency => false,
+        RegistrationType::Mobility | RegistrationType::Periodic | RegistrationType::Emergency =>
+            false,
     }
 }
 

@@ -85,7 +85,10 @@ impl Amf {
     pub(crate) fn take_over(&mut self, changes: &Changes)
         ensures { self.new ≡ changed changes.now self.old }
     {
-        take_subscribers(self.subscribers.as_mut_slice(), changes.subscribers.as_slice());
+        take_subscribers(
+            self.subscribers.as_mut_slice(),
+            changes.subscribers.as_slice(),
+        );
         take_links(self.links.as_mut_slice(), changes.links.as_slice());
         self.tmsi = changes.tmsi;
     }

@@ -61,12 +61,7 @@ fn passed_in_use(number: u16, context: &Context, count: Count, s: Subscriber) ->
 
 /// Octets under the context in use, whose plain message is written where they pass.
 #[tactic(auto, unfolding(crate::specs::Checks::checked_in_use, nas_base::specs::Branches::per))]
-pub fn checked_in_use(
-    number: u16,
-    octets: &[u8],
-    s: Subscriber,
-    out: &mut Writer,
-) -> Option<Check>
+pub fn checked_in_use(number: u16, octets: &[u8], s: Subscriber, out: &mut Writer) -> Option<Check>
     requires { out.old ≡ [] }
     ensures { option_map (λ check. record { check = check; message = out.new }) result ≡ checked_in_use number octets.now s }
 {

@@ -3,9 +3,9 @@ ghost use Rattle.std.specs.Prelude.{◌≡◌, [], drop, slice_index_or, IfOk, O
 ghost use Rattle.mm_messages.specs.Messages.{mm_in};
 ghost use Rattle.amf_core.specs.Delivery.{action, brought_up, by_table, check_of, ciphered, ciphered_for, failed, failed_request, freshened, integrity_protected, is_permitted_type, message_of, named_inside, passed, plain, received, sender, taken, taken_plain, under_either, under_new_context};
 
+use crate::Subscriber;
 use crate::checks::{Check, checked_in_use, checked_pending};
 use crate::work::Work;
-use crate::Subscriber;
 use collision_rules::{Action, collide_amf, permitted_amf};
 use mm_messages::{Mm, MmRefusal, decode_mm, kind_of};
 use nas_base::mm_cause::{
@@ -70,12 +70,7 @@ fn message_in(alloc: Global, octets: &[u8]) -> Result<Option<Mm>, Memory>
 
 // Octets under the context in use of a subscriber, if there is one.
 #[tactic(auto, unfolding(nas_base::specs::Branches::per))]
-fn check_of(
-    s: Option<Subscriber>,
-    number: u16,
-    octets: &[u8],
-    out: &mut Writer,
-) -> Option<Check>
+fn check_of(s: Option<Subscriber>, number: u16, octets: &[u8], out: &mut Writer) -> Option<Check>
     requires { out.old ≡ [] }
     ensures { option_map (λ check. record { check = check; message = out.new }) result ≡ check_of s number octets.now }
 {
@@ -147,7 +142,8 @@ impl<'a> Work<'a> {
             }
             Err(MmRefusal::Ignored { at: _ }) => Ok(()),
             Err(MmRefusal::UnknownType { n: _ }) => self.status(
-                number, MESSAGE_TYPE_NON_EXISTENT_OR_NOT_IMPLEMENTED,
+                number,
+                MESSAGE_TYPE_NON_EXISTENT_OR_NOT_IMPLEMENTED,
             ),
             Err(MmRefusal::Mandatory { part: _, at: _ }) => {
                 if is_permitted_type(octet_at(octets, 2)) {
@@ -176,24 +172,30 @@ impl<'a> Work<'a> {
         ensures { result ≡ named_inside message.now self.now }
     {
         match message {
-            Some(Mm::RegistrationRequest {
-                registration: _,
-                ksi: _,
-                identity,
-                capability: _,
-                status: _,
-            }) => self.kept_for(identity),
-            Some(Mm::ServiceRequest {
-                ksi: _,
-                service_type: _,
-                identity,
-                status: _,
-            }) => self.kept_for(identity),
-            Some(Mm::DeregistrationRequestUeOriginating {
-                switch_off: _,
-                ksi: _,
-                identity,
-            }) => self.kept_for(identity),
+            Some(
+                Mm::RegistrationRequest {
+                    registration: _,
+                    ksi: _,
+                    identity,
+                    capability: _,
+                    status: _,
+                },
+            ) => self.kept_for(identity),
+            Some(
+                Mm::ServiceRequest {
+                    ksi: _,
+                    service_type: _,
+                    identity,
+                    status: _,
+                },
+            ) => self.kept_for(identity),
+            Some(
+                Mm::DeregistrationRequestUeOriginating {
+                    switch_off: _,
+                    ksi: _,
+                    identity,
+                },
+            ) => self.kept_for(identity),
             _ => None,
         }
     }
@@ -243,7 +245,14 @@ impl<'a> Work<'a> {
                 capability,
                 status,
             } => self.registration_requested(
-                alloc, number, &None, registration, ksi, identity, capability, status,
+                alloc,
+                number,
+                &None,
+                registration,
+                ksi,
+                identity,
+                capability,
+                status,
             ),
             Mm::ServiceRequest {
                 ksi: _,
@@ -270,12 +279,7 @@ impl<'a> Work<'a> {
 
     // A frame of header type 4.
     #[tactic(auto, unfolding(crate::specs::Delivery::under_new_context, nas_base::specs::Branches::per))]
-    fn under_new_context(
-        &mut self,
-        alloc: Global,
-        number: u16,
-        octets: &[u8],
-    ) -> Result<(), Memory>
+    fn under_new_context(&mut self, alloc: Global, number: u16, octets: &[u8]) -> Result<(), Memory>
         ensures { OnOk result (self.new ≡ under_new_context number octets.now self.old) }
     {
         match self.subscriber_of_link(number) {
@@ -336,7 +340,8 @@ impl<'a> Work<'a> {
             Ok(message) => self.by_table(alloc, number, check, message),
             Err(MmRefusal::Ignored { at: _ }) => Ok(()),
             Err(MmRefusal::UnknownType { n: _ }) => self.status(
-                number, MESSAGE_TYPE_NON_EXISTENT_OR_NOT_IMPLEMENTED,
+                number,
+                MESSAGE_TYPE_NON_EXISTENT_OR_NOT_IMPLEMENTED,
             ),
             Err(MmRefusal::Mandatory { part: _, at: _ }) => {
                 if octet_at(octets, 2) == FIVE_GMM_STATUS {
@@ -362,7 +367,8 @@ impl<'a> Work<'a> {
         match collide_amf(s.word(), s.registered, kind_of(&message)) {
             Action::Take => self.taken(alloc, number, check, message),
             Action::Status98 => self.status(
-                number, MESSAGE_TYPE_NOT_COMPATIBLE_WITH_THE_PROTOCOL_STATE,
+                number,
+                MESSAGE_TYPE_NOT_COMPATIBLE_WITH_THE_PROTOCOL_STATE,
             ),
             Action::Discard | Action::Status43 | Action::Status47 => Ok(()),
         }
@@ -370,13 +376,7 @@ impl<'a> Work<'a> {
 
     // The row of a message that passed.
     #[tactic(auto, unfolding(crate::specs::Delivery::taken, nas_base::specs::Branches::chosen))]
-    fn taken(
-        &mut self,
-        alloc: Global,
-        number: u16,
-        check: Check,
-        message: Mm,
-    ) -> Result<(), Memory>
+    fn taken(&mut self, alloc: Global, number: u16, check: Check, message: Mm) -> Result<(), Memory>
         ensures { OnOk result (self.new ≡ taken number check message self.old) }
     {
         let s = check.subscriber;
@@ -390,7 +390,14 @@ impl<'a> Work<'a> {
             } => {
                 let passed = Some(s.supi);
                 self.registration_requested(
-                    alloc, number, &passed, registration, ksi, identity, capability, status,
+                    alloc,
+                    number,
+                    &passed,
+                    registration,
+                    ksi,
+                    identity,
+                    capability,
+                    status,
                 )
             }
             Mm::RegistrationComplete => self.registration_completed(&check.challenge, s),
@@ -426,7 +433,14 @@ impl<'a> Work<'a> {
                 slice,
                 dnn,
             } => self.transported(
-                number, check.challenge, container_type, container, psi, slice, dnn, &s,
+                number,
+                check.challenge,
+                container_type,
+                container,
+                psi,
+                slice,
+                dnn,
+                &s,
             ),
             _ => Ok(()),
         }
@@ -445,7 +459,14 @@ impl<'a> Work<'a> {
                 capability,
                 status,
             } => self.registration_requested(
-                alloc, number, &None, registration, ksi, identity, capability, status,
+                alloc,
+                number,
+                &None,
+                registration,
+                ksi,
+                identity,
+                capability,
+                status,
             ),
             Mm::ServiceRequest {
                 ksi: _,

@@ -57,11 +57,7 @@ fn is_challenged_on(number: u16, procedure: &Procedure) -> bool
 fn unlinked(number: u16, s: Subscriber) -> Subscriber
     ensures { result ≡ unlinked number s }
 {
-    let link = if is_on(number, s.link) {
-        None
-    } else {
-        s.link
-    };
+    let link = if is_on(number, s.link) { None } else { s.link };
     Subscriber { link, ..s }
 }
 

@@ -8,9 +8,16 @@ use nas_timers::TimerId;
 #[derive(Drop)]
 pub enum AmfInput {
     /// Octets came up a link, 1 to 64; `fresh` where they are the first of a connection.
-    Uplink { link: u16, fresh: bool, octets: Octets },
+    Uplink {
+        link: u16,
+        fresh: bool,
+        octets: Octets,
+    },
     /// A timer of a subscriber expired.
-    Expired { supi: Supi, id: TimerId },
+    Expired {
+        supi: Supi,
+        id: TimerId,
+    },
     /// The command to authenticate a subscriber, and to take a new context into use with it (TS 24.501 clauses 5.4.1.3 and 5.4.2).
     Authenticate(Supi),
     /// The command to de-register a subscriber (TS 24.501 clause 5.5.2.3).
@@ -18,11 +25,20 @@ pub enum AmfInput {
     /// The SMF wants a security mode procedure.
     Fence(Supi),
     /// The SMF tells which sessions there are.
-    Sessions { supi: Supi, status: Status },
+    Sessions {
+        supi: Supi,
+        status: Status,
+    },
     /// The SMF has a 5GSM message for the handset.
-    Down { supi: Supi, psi: Psi, frame: Octets },
+    Down {
+        supi: Supi,
+        psi: Psi,
+        frame: Octets,
+    },
     /// A link is lost, 1 to 64.
-    Dropped { link: u16 },
+    Dropped {
+        link: u16,
+    },
 }
 
 /// Why a step was refused.

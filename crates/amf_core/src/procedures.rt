@@ -208,9 +208,8 @@ impl Procedure {
     {
         match self {
             Procedure::Idle => true,
-            Procedure::Challenging(_)
-            | Procedure::Accepting(_)
-            | Procedure::Deregistering(_) => false,
+            Procedure::Challenging(_) | Procedure::Accepting(_) | Procedure::Deregistering(_) =>
+                false,
         }
     }
 }

@@ -92,12 +92,7 @@ fn equal_acceptance(request: &Request, procedure: &Procedure) -> Option<Acceptin
 }
 
 // REGISTRATION ACCEPT.
-fn accept(
-    config: &Configured,
-    slices: &Nssai,
-    guti: Option<Guti>,
-    status: Option<Status>,
-) -> Mm
+fn accept(config: &Configured, slices: &Nssai, guti: Option<Guti>, status: Option<Status>) -> Mm
     ensures { result ≡ accept config.now slices.now guti status }
 {
     Mm::RegistrationAccept {
@@ -128,9 +123,8 @@ fn is_periodic(registration: RegistrationType) -> bool
 {
     match registration {
         RegistrationType::Periodic => true,
-        RegistrationType::Initial
-        | RegistrationType::Mobility
-        | RegistrationType::Emergency => false,
+        RegistrationType::Initial | RegistrationType::Mobility | RegistrationType::Emergency =>
+            false,
     }
 }
 
@@ -140,9 +134,8 @@ fn is_emergency(registration: RegistrationType) -> bool
 {
     match registration {
         RegistrationType::Emergency => true,
-        RegistrationType::Initial
-        | RegistrationType::Mobility
-        | RegistrationType::Periodic => false,
+        RegistrationType::Initial | RegistrationType::Mobility | RegistrationType::Periodic =>
+            false,
     }
 }
 
@@ -239,7 +232,12 @@ impl<'a> Work<'a> {
         let mut link = self.amf.link(number);
         link.waiting = Some(request);
         self.put_link(link)?;
-        self.answer(number, Mm::IdentityRequest { identity_type: SUCI })
+        self.answer(
+            number,
+            Mm::IdentityRequest {
+                identity_type: SUCI,
+            },
+        )
     }
 
     /// A request whose SUCI names this subscriber, if any.

@@ -7,9 +7,7 @@ use crate::acts::Protection;
 use crate::work::Work;
 use mm_messages::Mm;
 use nas_base::Memory;
-use nas_base::mm_cause::{
-    IMPLICITLY_DEREGISTERED, UE_IDENTITY_CANNOT_BE_DERIVED_BY_THE_NETWORK,
-};
+use nas_base::mm_cause::{IMPLICITLY_DEREGISTERED, UE_IDENTITY_CANNOT_BE_DERIVED_BY_THE_NETWORK};
 
 impl<'a> Work<'a> {
     /// SERVICE REQUEST that passed.

@@ -6,8 +6,8 @@ ghost use Rattle.amf_core.specs.Outcome.{Works};
 ghost use Rattle.amf_core.specs.Step.{Follows, Steps, step_of, worked};
 
 use crate::acts::Acts;
-use crate::commands::unrefused;
 use crate::changes::Changes;
+use crate::commands::unrefused;
 use crate::draft::Draft;
 use crate::framing::Framed;
 use crate::work::Work;
