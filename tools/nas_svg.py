@@ -55,7 +55,8 @@ def clock(place, pen):
 
 def text(place, words, anchor="start", size=11, weight="normal", colour="black"):
     """A line of text; anchor is start, middle or end."""
-    return shape("text", escape(words), x=place[0], y=place[1], text_anchor=anchor, font_size=size, font_weight=weight, fill=colour)
+    return shape("text", escape(words), x=place[0], y=place[1], text_anchor=anchor, font_size=size, font_weight=weight,
+                 fill=colour)
 
 
 def label(place, words, anchor="start", weight="normal"):
