@@ -14,31 +14,38 @@ MODEL = os.environ.get("NAS_MODEL", "")
 TSHARK = shutil.which("tshark")
 SVG = "{http://www.w3.org/2000/svg}"
 
-STATES = "  ue %s - -\n  net Registered - -\n  honest %s agree yes\n"
-CONNECTED, IDLE = STATES % ("Registering connected", "yes"), STATES % ("Deregistered idle", "yes")
-FORGED = STATES % ("Registering connected", "no")
-# Each thing that a chart shows; the moments of both ends rise, and one line is below its end's own.
+STATES = "  ue %s - -\n  net Registered - -\n  honest %s agree %s\n"
+CONNECTED, IDLE = STATES % ("Registering connected", "yes", "yes"), STATES % ("Deregistered idle", "yes", "yes")
+FORGED, APART = STATES % ("Registering connected", "no", "yes"), STATES % ("Registering connected", "no", "no")
+REQUEST = "7e004179000d0100f110f0ff000000000000102e02a020"
+# Each thing that a chart shows, a line of no kind that is known here too. Two moments are below their end's own, and one message
+# holds another.
 BY_HAND = ("nas transcript 1\n"
            "1 ue-at 1500\n" + IDLE +
-           "2 register\n  up 1 7e004179000d0100f110f0ff000000000000102e02a020\n" + CONNECTED +
-           "3 register\n  refused WrongState\n" + CONNECTED +
-           "4 to-net 1\n  down 1 7e005b01\n" + CONNECTED +
-           "5 to-net 1\n  down 2 7e005b01\n" + CONNECTED +
-           "6 to-ue 7\n  nothing\n" + CONNECTED +
-           "7 net-at 6000\n  down 3 7e0299999999077e00\n" + CONNECTED +
-           "8 net-at 5\n  down 4 7e0399999999087e005d220002a020\n" + CONNECTED +
-           "9 ue-at 2000\n  up 2 7e0199999999ff7e004c000007f4004000000001\n" + CONNECTED +
-           "10 inject-net fresh 7e004501000bf200f11002004000000001\n" + CONNECTED +
-           "11 inject-ue -\n" + FORGED +
-           "12 drop-ue\n" + FORGED + "13 drop-net\n" + FORGED + "14 restart\n" + FORGED +
-           "end 14 events honest no agree yes\n")
-MOMENTS_BY_HAND = [1500, 1500, 1500, 6000, 6000, 6000]
+           "2 ue-at 100\n" + IDLE +
+           "3 register\n  up 1 " + REQUEST + "\n" + CONNECTED +
+           "4 register\n  refused WrongState\n" + CONNECTED +
+           "5 to-net 1\n  down 1 7e005b01\n" + CONNECTED +
+           "6 to-net 1\n  down 2 7e005b01\n" + CONNECTED +
+           "7 to-ue 7\n  nothing\n" + CONNECTED +
+           "8 net-at 6000\n  down 3 7e0299999999077e00\n" + CONNECTED +
+           "9 net-at 5\n  down 4 7e0399999999087e005d220002a020\n" + CONNECTED +
+           "10 to-ue 4\n  up 2 7e0199999999fe7e005e710017" + REQUEST + "\n" + CONNECTED +
+           "11 ue-at 7001\n  up 3 7e0199999999ff7e004c000007f4004000000001\n" + CONNECTED +
+           "12 inject-net fresh 7e004501000bf200f11002004000000001\n" + CONNECTED +
+           "13 inject-ue -\n" + FORGED +
+           "14 drop-ue\n" + FORGED + "15 drop-net\n" + FORGED + "16 restart\n" + FORGED +
+           "17 of a kind <unknown> & later\n" + APART +
+           "end 17 events honest no agree no\n")
+MOMENTS_BY_HAND = [1500, 1500, 1500, 6000, 6000, 6000, 7001]
 SHOWN_BY_HAND = ["up 1: REGISTRATION REQUEST", "refused: WrongState", "down 1: IDENTITY REQUEST", "again: up 1",
                  "nothing: down 7 isn't sent yet", "down 3: header type 2, sn 7, by a timer",
                  "down 4: SECURITY MODE COMMAND (header type 3, sn 8), by a timer",
-                 "up 2: SERVICE REQUEST (header type 1, sn 255), by a timer", "injected fresh: DEREGISTRATION REQUEST",
-                 "injected: 0 octets", "from event 11 on: honest no", "restart"]
-IDS_BY_HAND = ["up-1", "up-2", "down-1", "down-2", "down-3", "down-4", "up-1-again-5", "injected-10", "injected-11"]
+                 "up 2: SECURITY MODE COMPLETE (header type 1, sn 254)",
+                 "up 3: SERVICE REQUEST (header type 1, sn 255), by a timer", "injected fresh: DEREGISTRATION REQUEST",
+                 "injected: 0 octets", "from event 13 on: honest no", "from event 17 on: agree no", "restart", "at 7001 ms",
+                 "17  of a kind <unknown> & later"]
+IDS_BY_HAND = ["up-1", "up-2", "up-3", "down-1", "down-2", "down-3", "down-4", "up-1-again-6", "injected-12", "injected-13"]
 
 
 def expect(what, wanted, found):
@@ -48,9 +55,9 @@ def expect(what, wanted, found):
         sys.exit(1)
 
 
-def run(tool, *words, path=None):
-    """A script's end: status, standard output, standard error."""
-    environment = dict(os.environ, PYTHONDONTWRITEBYTECODE="1", **({"PATH": path} if path is not None else {}))
+def run(tool, *words, **variables):
+    """A script's end, with these variables in its environment: status, standard output, standard error."""
+    environment = dict(os.environ, PYTHONDONTWRITEBYTECODE="1", **variables)
     done = subprocess.run([sys.executable, "tools/" + tool] + list(words), capture_output=True, text=True, env=environment)
     return done.returncode, done.stdout, done.stderr
 
@@ -106,7 +113,7 @@ def try_back(name, sent, capture):
     wanted = (0, "".join(line + "\n" for line in lines_for(sent)), "")
     if not sent:
         wanted = (1, "", "from-pcap: %s: no NAS message in it\n" % capture)
-    expect("from-pcap of %s without tshark" % name, wanted, run("from-pcap", capture, path=""))
+    expect("from-pcap of %s without tshark" % name, wanted, run("from-pcap", capture, PATH=""))
     if TSHARK:
         expect("from-pcap of %s by tshark" % name, wanted, run("from-pcap", capture))
 
@@ -152,6 +159,7 @@ def try_by_hand(folder):
     labels = [element.text for element in root.iter(SVG + "text")]
     expect("texts by hand", [], [text for text in SHOWN_BY_HAND if text not in labels])
     expect("lost connections by hand", 2, labels.count("connection lost"))
+    expect("moments of the handset by hand", 2, labels.count("at 1500 ms"))
     ids = [element.get("id") for element in root.iter(SVG + "g") if element.get("id")]
     expect("identities by hand", sorted(IDS_BY_HAND), sorted(ids))
 
@@ -160,11 +168,11 @@ def try_faults(folder):
     """Wrong transcripts and captures: one line, status 1, and the file that is there stays as it was."""
     late = BY_HAND.replace("ue-at 1500", "ue-at 999999999999999")
     wrong = {"no transcript": "nas: words\n", "empty": "", "cut in a line": BY_HAND[:-1],
-             "cut between events": BY_HAND[:BY_HAND.index("5 to-net")], "cut in an event": BY_HAND[:BY_HAND.index("  net ")],
+             "cut between events": BY_HAND[:BY_HAND.index("6 to-net")], "cut in an event": BY_HAND[:BY_HAND.index("  net ")],
              "odd digits": BY_HAND.replace("7e005b01\n", "7e005b0\n"), "no digits": BY_HAND.replace("inject-ue -", "inject-ue x"),
              "a message missing": BY_HAND.replace("  down 1 7e005b01\n", ""),
-             "an event missing": BY_HAND.replace("3 register\n  refused WrongState\n" + CONNECTED, ""),
-             "more behind the end": BY_HAND + "\n", "another end": BY_HAND.replace("end 14", "end 13"),
+             "an event missing": BY_HAND.replace("4 register\n  refused WrongState\n" + CONNECTED, ""),
+             "more behind the end": BY_HAND + "\n", "another end": BY_HAND.replace("end 17", "end 16"),
              "an octet above 127": BY_HAND.replace("restart", "r\u00e9start")}
     place, out = os.path.join(folder, "wrong"), os.path.join(folder, "kept")
     with open(out, "w") as file:
@@ -192,7 +200,7 @@ def try_wrong_captures(folder, place):
     for what, octets in wrong.items():
         with open(place, "wb") as file:
             file.write(octets)
-        refused("from-pcap without tshark on " + what, run("from-pcap", place, path=""))
+        refused("from-pcap without tshark on " + what, run("from-pcap", place, PATH=""))
         if TSHARK and what != "Ethernet":
             refused("from-pcap by tshark on " + what, run("from-pcap", place))
     refused("from-pcap on no file", run("from-pcap", place + "-none"))
@@ -217,12 +225,12 @@ def ngap_packet(number, procedure, source, destination, message):
     return struct.pack(">BBHHHBBH", 0x45, 0, 20 + len(sctp), 0, 0, 64, 132, 0) + addresses + sctp
 
 
-def write_capture(place, link, packets):
-    """A capture of these packets, with numbers in the other order than those of to-pcap."""
+def write_capture(place, link, packets, missing=0):
+    """A capture of these packets, with numbers in the other order than those of to-pcap. So many octets of each are missing."""
     with open(place, "wb") as file:
         file.write(struct.pack("<IHHiIII", 0xA1B2C3D4, 2, 4, 0, 0, 65535, link))
         for packet in packets:
-            file.write(struct.pack("<IIII", 0, 0, len(packet), len(packet)) + packet)
+            file.write(struct.pack("<IIII", 0, 0, len(packet), len(packet) + missing) + packet)
 
 
 def try_others(folder):
@@ -241,16 +249,37 @@ def try_others(folder):
     alone = ["inject-ue 7e005b01", unknown + octets, "inject-net fresh 7e005c00010f", unknown + octets, ""]
     expect("from-pcap of others without tshark", (0, "\n".join(alone), note % 2
                                                   + "from-pcap: 1 left out: the packet is of the dissector 'nas-eps'\n"),
-           run("from-pcap", place, path=""))
+           run("from-pcap", place, PATH=""))
     if TSHARK:
         wanted = ["inject-ue 7e005b01", "inject-net fresh " + octets, "inject-net 7e005c00010f", unknown + octets, ""]
         expect("from-pcap of others by tshark", (0, "\n".join(wanted), note % 1), run("from-pcap", place))
 
 
+def try_short(folder):
+    """A packet that was captured in part is left out, with tshark and without."""
+    place = os.path.join(folder, "short.pcap")
+    write_capture(place, 252, [bytes.fromhex("000c0008") + b"nas-5gs\0" + bytes(4) + bytes.fromhex("7e005b01")], missing=1)
+    wanted = (0, "", "from-pcap: 1 left out: the packet was cut when captured\n")
+    expect("from-pcap of a short packet without tshark", wanted, run("from-pcap", place, PATH=""))
+    if TSHARK:
+        expect("from-pcap of a short packet by tshark", wanted, run("from-pcap", place))
+
+
+def try_inner(folder):
+    """A message that holds another is one message, also for a tshark whose user lets it read what isn't enciphered."""
+    files = try_transcript("the transcript by hand", BY_HAND, folder)
+    settings = os.path.join(folder, "settings")
+    os.mkdir(settings)
+    with open(os.path.join(settings, "preferences"), "w") as file:
+        file.write("nas-5gs.null_decipher: TRUE\n")
+    wanted = "".join(line + "\n" for line in lines_for(sent_in(BY_HAND)))
+    expect("from-pcap with settings", (0, wanted, ""), run("from-pcap", files[1], WIRESHARK_CONFIG_DIR=settings))
+
+
 def try_ngap(folder):
     """A capture of NGAP, whose procedures tell the directions where the ports don't."""
     place = os.path.join(folder, "ngap.pcap")
-    sent = [("up", 15, 38412, 38412, "7e004179000d0100f110f0ff000000000000102e02a020"), ("down", 4, 38412, 40000, "7e005b01"),
+    sent = [("up", 15, 38412, 38412, "7e0299999999067e00"), ("down", 4, 38412, 40000, "7e005b01"),
             ("up", 46, 40000, 38412, "7e0299999999077e00"), ("down", 4, 38412, 40000, "7e0299999999087e00")]
     packets = [ngap_packet(number, procedure, source, destination, bytes.fromhex(octets))
                for number, (_, procedure, source, destination, octets) in enumerate(sent)]
@@ -285,7 +314,9 @@ def main():
         try_by_hand(folder)
         try_faults(folder)
         try_others(folder)
+        try_short(folder)
         if TSHARK:
+            try_inner(folder)
             try_ngap(folder)
         examples, runs = sorted(glob.glob("examples/*.script")), 0
         if os.access(PROGRAM, os.X_OK):
