@@ -308,6 +308,17 @@ def try_runs(command, scripts, folder):
     return len(scripts)
 
 
+def try_picture(rows, folder):
+    """The picture of the guide is what ladder draws of the model's clean run."""
+    script = os.path.join(rows, "clean-run.script")
+    if not os.path.isfile(script):
+        return
+    text = transcript_of([sys.executable, MODEL], script[:-len("script")] + "toml", script)
+    files = try_transcript("the clean run", text, folder)
+    with open(files[2]) as drawn, open("docs/pictures/clean-run.svg") as kept:
+        expect("docs/pictures/clean-run.svg as tools/ladder draws it", True, drawn.read() == kept.read())
+
+
 def main():
     """All that this machine can try."""
     with tempfile.TemporaryDirectory() as folder:
@@ -324,8 +335,9 @@ def main():
         else:
             print("tools: the examples' runs by the program are skipped, %s isn't built" % PROGRAM)
         if os.path.isfile(MODEL):
-            rows = sorted(glob.glob(os.path.join(os.path.dirname(MODEL), "..", "rows", "*.script")))
-            runs += try_runs([sys.executable, MODEL], examples + rows, folder)
+            rows = os.path.join(os.path.dirname(MODEL), "..", "rows")
+            runs += try_runs([sys.executable, MODEL], examples + sorted(glob.glob(os.path.join(rows, "*.script"))), folder)
+            try_picture(rows, folder)
         else:
             print("tools: runs by the model are skipped, NAS_MODEL names none")
     print("tools: the transcript by hand and %d runs, each with ciphering and without, are as they should be%s"
