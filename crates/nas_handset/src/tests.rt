@@ -155,10 +155,7 @@ impl Ends {
             .ok()
             .ok_or("spent")?;
         let mut frame = Vec::new(alloc);
-        frame
-            .extend_from_slice(out.octets())
-            .ok()
-            .ok_or("memory")?;
+        frame.extend_from_slice(out.octets()).ok().ok_or("memory")?;
         Ok(frame)
     }
 
@@ -200,7 +197,9 @@ fn taken(alloc: Global, delivery: &Delivery) -> Result<String, Fail> {
     }
     if let Some(context) = &delivery.took {
         let ksi = context.ksi.0;
-        text = format!(in alloc; "{text}, took {ksi}").ok().ok_or("memory")?;
+        text = format!(in alloc; "{text}, took {ksi}")
+            .ok()
+            .ok_or("memory")?;
     }
     Ok(text)
 }

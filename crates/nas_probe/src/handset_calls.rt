@@ -63,12 +63,7 @@ pub fn answer(alloc: Global, words: &[&str]) -> Result<String, Refusal> {
 }
 
 // A handset with this SQN_MS and this capability, and what becomes of the inputs.
-fn walk(
-    alloc: Global,
-    sqn: &str,
-    capability: &str,
-    inputs: &[&str],
-) -> Result<String, Refusal> {
+fn walk(alloc: Global, sqn: &str, capability: &str, inputs: &[&str]) -> Result<String, Refusal> {
     let capability = octets(alloc, capability)?;
     let capability = Capability::read(&capability).map_err(|_| Refusal::Unreadable)?;
     let mut course = Course::new(alloc, &config(sequence_number(sqn)?, capability)?)?;
