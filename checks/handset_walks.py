@@ -19,8 +19,8 @@ COMMANDS = {
 
 
 class Walk:
-    """A walk, made at random in step with the model: the words for nas_probe, and what each step is to answer. A walk names its call, the model's
-    handset that it is compared with, and how it goes on."""
+    """A walk, made at random in step with the model: the words for nas_probe, and what each step is to answer. Each kind of walk
+    has its CALL, the model's handset that it is compared with (`observed`), and how it goes on (`go`)."""
 
     def __init__(self, rng, modules, config):
         self.rng, (self.model, self.codec, crypto) = rng, modules
@@ -165,7 +165,8 @@ def drawn(rng, modules, config, kind):
 
 
 def compare(name, kind, answered, count):
-    """Draws walks of a kind, hands them to nas_probe, and compares each answer. The arguments are the program's; answers the exit status."""
+    """Draws walks of a kind, hands them to nas_probe, and compares each answer. The program's words say where model and nas_probe
+    are, and how many walks of which seed. Answers the exit status."""
     model_path, probe = sys.argv[1:3]
     count = int(sys.argv[3]) if len(sys.argv) > 3 else count
     seed = int(sys.argv[4]) if len(sys.argv) > 4 else 1

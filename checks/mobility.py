@@ -1,11 +1,11 @@
 """Compares a handset's 5GMM, as nas_probe's call `mobility` drives it step by step, with an executable model. See mobility.sh.
 
-Beside what handset.py compares, these are compared at each step: what the sessions are told, by what becomes of them, and the running timers with
-their deadlines. The order of what goes out is compared among the messages that are sent, and among those for the sessions, and not between one and
-another kind.
+Beside what handset.py compares, each step compares what the sessions are told, by what becomes of them, and the running timers
+with their deadlines. The order of what goes out is compared among the messages that are sent, and among those for the sessions,
+and not between one and another kind.
 
-The model has sessions, so its calls for them are replaced by ones that note what they are told, and a message of a session is carried by
-the call that its sessions make. Timers expire whether they are due or not.
+The model has sessions, so its calls for them are replaced by ones that note what they are told, and a message of a session is
+carried by the call that its sessions make. Timers expire whether they are due or not.
 
 usage: mobility.py MODEL PROBE [WALKS [SEED]]
 """

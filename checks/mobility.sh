@@ -1,7 +1,8 @@
 #!/bin/sh
-# Compares the steps of a handset's 5GMM, through the program nas_probe, with the executable model that NAS_MODEL names, on random walks: what goes to
-# a handset's sessions and comes from them, timers that no procedure has, and counts near their end, which handset.sh doesn't reach. A difference ends
-# with status 1; where the program isn't built, no model is there or python3 is missing, nothing is compared, with status 0.
+# Compares the steps of a handset's 5GMM, through the program nas_probe, with the executable model that NAS_MODEL names, on random
+# walks: what goes to a handset's sessions and comes from them, timers that no procedure has, and counts near their end, which
+# handset.sh doesn't reach. A difference ends with status 1; where the program isn't built, no model is there or python3 is missing,
+# nothing is compared, with status 0.
 #
 # usage: checks/mobility.sh [WALKS [SEED]]
 cd "$(dirname "$0")/.." || exit 1
