@@ -22,6 +22,7 @@ class HandsetWalk(Walk):
             config = config._replace(capability=bytes.fromhex(rng.choice(CAPABILITIES)))
         super().__init__(rng, modules, config)
         self.words.append(text(config.capability))
+        self.deadlines = set()  # also of timers that were stopped since
 
     def observed(self):
         """The model's handset, without sessions."""
@@ -36,9 +37,10 @@ class HandsetWalk(Walk):
         return Observed
 
     def moment(self):
-        """A moment that tells something: a timer's deadline, or one just before or behind it; one before the last told; the last of all."""
+        """A moment that tells something: a deadline, or just before or behind it; one before the last told; the last of all."""
         rng, handset = self.rng, self.handset
-        deadlines = sorted(handset.timers.values())
+        running = handset.timers.values()
+        deadlines = sorted(running if running and self.chance(0.6) else {at for at in self.deadlines if at >= handset.now})
         if deadlines and self.chance(0.7):
             return rng.choice(deadlines) + rng.choice([0, 0, 0, -1, 5])
         if self.chance(0.05):
@@ -46,6 +48,10 @@ class HandsetWalk(Walk):
         if self.chance(0.05):
             return rng.randint(0, handset.now)
         return handset.now + rng.choice([0, 1, 1000, 14999, 15000, 30000])
+
+    def step(self, word, act):
+        super().step(word, act)
+        self.deadlines.update(self.handset.timers.values())
 
     def tick(self):
         moment = max(0, min(self.moment(), LAST_MOMENT))
@@ -72,4 +78,4 @@ class HandsetWalk(Walk):
 
 
 if __name__ == "__main__":
-    sys.exit(compare("handset", HandsetWalk, Answered, 600))
+    sys.exit(compare("handset", HandsetWalk, Answered, 2000))

@@ -187,4 +187,4 @@ class AnsweredWithSessions(Answered):
 
 
 if __name__ == "__main__":
-    sys.exit(compare("mobility", MobilityWalk, AnsweredWithSessions, 200))
+    sys.exit(compare("mobility", MobilityWalk, AnsweredWithSessions, 400))
