@@ -1,9 +1,9 @@
-"""Octets for a handset that handset.py sends: messages of a network, in frames or plain, as they are or changed."""
+"""Octets for a handset that handset.py and mobility.py send: messages of a network, in frames or plain, as they are or changed."""
 from elements import mutated
 
 LONGEST = 4096  # octets of a message, and of a frame
 LONGEST_MESSAGE = LONGEST - 7  # of one in a frame
-MOST = 4100  # octets that nas_probe takes
+MOST = 4100  # octets that 5GMM takes
 COUNTS = 1 << 24
 GUTIS = ["f200f11002004000000001", "f200f1100200400000abcd", "f221436520ff123456789a"]
 NO_GUTIS = ["f4004000000001", "0100f110f0ff00000000000010", "f200f110020040000000", ""]
@@ -156,7 +156,7 @@ class Network:
             return rng.randbytes(rng.randint(0, 40))
         if kind == 2:
             message = rng.choice([bytes([0x7E, 0, 0x5B, 1]), bytes([0x7E, 0, 0x7F]), self.challenge()])
-            return message + bytes([0xA0]) * (rng.choice([LONGEST, LONGEST + 1, MOST]) - len(message))
+            return message + bytes([0xA0]) * (rng.choice([LONGEST, LONGEST + 1, MOST, MOST + 1, 5000]) - len(message))
         if kind == 3 and self.handset.current:
             message = bytes([0x7E, 0, 0x5B, 1])
             message += bytes([0xA0]) * (rng.choice([LONGEST_MESSAGE - 1, LONGEST_MESSAGE]) - len(message))
@@ -187,7 +187,7 @@ class Network:
         if word == "Registering":
             return self.under_current(self.accept())
         if word == "Serving":
-            return self.under_current(bytes([0x7E, 0, 0x4E]))
+            return self.under_current(bytes.fromhex("7e004e" if self.chance(0.7) else f"7e004d{self.rng.choice(CAUSES):02x}"))
         if word == "Deregistering":
             return self.under_current(bytes([0x7E, 0, 0x46]))
         if handset.pending:
@@ -198,7 +198,7 @@ class Network:
     def string(self):
         """What reaches the handset next."""
         made = self.next_in_line() if self.chance(0.6) else None
-        return (self.any_string() if made is None else made)[:MOST]
+        return self.any_string() if made is None else made
 
     def any_string(self):
         drawn, message = self.rng.random(), self.any_message()

@@ -1,33 +1,26 @@
-//! The calls of ue_mm, at a handset of the SUPI 001010000000001 whose card has the keys of TS 35.208 test set 1, with the
-//! capability a020 and the standard durations:
+//! The calls of nas_handset, at a handset of the SUPI 001010000000001 whose card has the keys of TS 35.208 test set 1, with the
+//! standard durations:
 //!
-//!     handset SQN INPUT INPUT ..
+//!     handset SQN CAPABILITY INPUT INPUT ..
 //!     time_registration TIMES
 //!     time_discarded TIMES
 //!
-//! SQN is SQN_MS in hex, 6 octets. An INPUT is one of these:
+//! SQN is SQN_MS in hex, 6 octets, and CAPABILITY is what security the handset is capable of. An INPUT is one of these:
 //!
-//!     at:MS                   the moment from here on, at most 10^15; 0 at the beginning
-//!     held:OCTETS             the PDU sessions that are held from here on, a session status; none at the beginning
-//!     capability:OCTETS       what security the handset is capable of, from here on
-//!     counts:UP:DOWN          the next counts of the context in use are these, at most 2^24
 //!     register, mobility, periodic, service, deregister, switch-off
-//!     octets:OCTETS           at most 4,100 octets reach the handset
-//!     expired:TIMER           T3510, T3516, T3517, T3521, T3522, T3550 or T3560
+//!     octets:OCTETS           these octets reach the handset
+//!     tick:MS                 the moment is told, at most 10^15
 //!     drop, restart
-//!     carry:PSI:OCTETS        a message of a session, perhaps with its data network
-//!     carry:PSI:OCTETS:DNN
+//!     copy                    a copy of the handset goes on in its place
 //!
-//! The answer has a step for each INPUT but the first four, with a blank between. A step is what went out, in order, and then
-//! what can be seen, with commas between. What goes out is one of these, where a PASS is SUPI.SQN.RAND.COUNT:
+//! The answer has a step for each INPUT, with a blank between. A step is what came of it, and then what can be seen, with commas
+//! between. What comes of it is some of these, in this order, where a PASS is SUPI.SQN.RAND.COUNT:
 //!
-//!     fresh:OCTETS:PASS       a message is sent, the first of its connection; `plain` in place of the PASS of a plain one
-//!     sent:OCTETS:PASS        the same of any other message
+//!     refused:wrong_state:STATE, refused:spent:NEXT
 //!     passed:PASS
 //!     took:CONTEXT            NGKSI.SQN.RAND.KAMF.NEA.NIA.KNASENC.KNASINT.UP.DOWN
-//!     to_session:OCTETS, not_forwarded:OCTETS, abandon, clear, keep:OCTETS
-//!     start:TIMER:MS, stop:TIMER
-//!     refused:wrong_state:STATE, refused:spent:NEXT
+//!     fresh:OCTETS:PASS       a message is sent, the first of its connection; `plain` in place of the PASS of a plain one
+//!     sent:OCTETS:PASS        the same of any other message
 //!
 //! What can be seen is STATE:CONNECTED:SECURE:REGISTERED:GUTI:CONTEXT:PENDING:SQN, with `true` or `false` for the second to the
 //! fourth, SQN.RAND for a pending challenge, and `none` for what isn't there. Each SQN is in hex, and all other numbers are decimal.
@@ -36,7 +29,7 @@
 //! frame TIMES times whose MAC is wrong. Both answer a sum of what came out, for a clock outside.
 
 use crate::handset_course::Course;
-use crate::words::{Refusal, exactly, quantity};
+use crate::words::{Refusal, exactly, octets, quantity};
 use crate::{handset_inputs, handset_times};
 use nas_base::{Plmn, Supi};
 use nas_elements::Capability;
@@ -56,7 +49,7 @@ pub const OPC: [u8; 16] = [
 /// The answer to a call.
 pub fn answer(alloc: Global, words: &[&str]) -> Result<String, Refusal> {
     match words {
-        ["handset", sqn, inputs @ ..] => walk(alloc, sqn, inputs),
+        ["handset", sqn, capability, inputs @ ..] => walk(alloc, sqn, capability, inputs),
         ["time_registration", times] => {
             let sum = handset_times::registrations(alloc, quantity(times)?)?;
             format!(in alloc; "{sum}").map_err(|_| Refusal::Memory)
@@ -69,24 +62,29 @@ pub fn answer(alloc: Global, words: &[&str]) -> Result<String, Refusal> {
     }
 }
 
-// A handset with this SQN_MS, and what becomes of the inputs.
-fn walk(alloc: Global, sqn: &str, inputs: &[&str]) -> Result<String, Refusal> {
-    let [a, b, c, d, e, f] = exactly::<6>(sqn)?;
-    let config = config(u64::from_be_bytes([0, 0, a, b, c, d, e, f]))?;
-    let mut course = Course::new(alloc, &config);
+// A handset with this SQN_MS and this capability, and what becomes of the inputs.
+fn walk(alloc: Global, sqn: &str, capability: &str, inputs: &[&str]) -> Result<String, Refusal> {
+    let capability = octets(alloc, capability)?;
+    let capability = Capability::read(&capability).map_err(|_| Refusal::Unreadable)?;
+    let mut course = Course::new(alloc, &config(sequence_number(sqn)?, capability)?)?;
     for word in inputs {
-        course = course.go(alloc, handset_inputs::read_given(alloc, word)?)?;
+        course.go(alloc, handset_inputs::read_input(alloc, word)?)?;
     }
     Ok(course.told)
 }
 
-/// The handset of the calls, with this SQN_MS. It is unreadable where SQN_MS isn't below 2^48.
-pub fn config(sqn: u64) -> Result<HandsetConfig, Refusal> {
+/// A sequence number in hex.
+pub fn sequence_number(word: &str) -> Result<u64, Refusal> {
+    let [a, b, c, d, e, f] = exactly::<6>(word)?;
+    Ok(u64::from_be_bytes([0, 0, a, b, c, d, e, f]))
+}
+
+/// The handset of the calls, with this SQN_MS and this capability. It is unreadable where SQN_MS isn't below 2^48.
+pub fn config(sqn: u64, capability: Capability) -> Result<HandsetConfig, Refusal> {
     let plmn = Plmn::from_digits(&[0, 0, 1, 0, 1]).ok_or(Refusal::Unreadable)?;
     let supi = Supi::from_slice(&[0, 0, 1, 0, 1, 0, 0, 0, 0, 0, 0, 0, 0, 0, 1]).ok_or(
         Refusal::Unreadable,
     )?;
-    let capability = Capability::from_slice(&[0xa0, 0x20]).ok_or(Refusal::Unreadable)?;
     if sqn >= 1 << 48 || !supi.is_of(&plmn) {
         return Err(Refusal::Unreadable);
     }
@@ -99,4 +97,9 @@ pub fn config(sqn: u64) -> Result<HandsetConfig, Refusal> {
         capability,
         durations: Durations::standard(),
     })
+}
+
+/// What the handset of the calls is capable of where nothing is said: 128-NEA2 and 128-NIA2.
+pub fn standard_capability() -> Result<Capability, Refusal> {
+    Capability::from_slice(&[0xa0, 0x20]).ok_or(Refusal::Unreadable)
 }

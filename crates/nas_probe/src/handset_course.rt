@@ -1,129 +1,72 @@
 //! A handset on its way through inputs.
-ghost use Rattle.std.specs.Prelude.{◌≤◌, ◌^◌};
 
-use crate::handset_inputs::Given;
-use crate::handset_texts::{outs_text, refusal_text, view_text};
+use crate::handset_inputs::Input;
+use crate::handset_texts::{delivery_text, refusal_text, sends_text, view_text};
 use crate::words::Refusal;
-use nas_base::Moment;
-use nas_elements::{Capability, Status};
-use nas_security::Context;
+use nas_handset::Handset;
 use std::alloc::Global;
-use ue_mm::{Common, HandsetConfig, StepRefusal, UeInput, UeMm, step};
+use ue_mm::HandsetConfig;
 
-// How many counts there are.
-const COUNTS: u32 = 0x0100_0000;
-
-/// A handset, the moment and the sessions that it is given, and what it answered so far.
+/// A handset, and what it answered so far.
 #[derive(Drop)]
 pub struct Course {
-    handset: UeMm,
-    now: Moment,
-    held: Status,
+    handset: Handset,
     pub told: String,
 }
 
 impl Course {
     /// A handset that was just made.
-    pub fn new(alloc: Global, config: &HandsetConfig) -> Course {
-        Course {
-            handset: UeMm::new(config),
-            now: Moment(0),
-            held: Status::empty(),
-            told: String::new(alloc),
-        }
-    }
-
-    /// What comes of the next word.
-    pub fn go(self, alloc: Global, given: Given) -> Result<Course, Refusal> {
-        match given {
-            Given::Now(now) => Ok(Course { now, ..self }),
-            Given::Held(held) => Ok(Course { held, ..self }),
-            Given::Capability(capability) => {
-                let handset = with_capability(self.handset, capability);
-                Ok(Course { handset, ..self })
-            }
-            Given::Counts { up, down } => {
-                if up > COUNTS || down > COUNTS {
-                    return Err(Refusal::Unreadable);
-                }
-                let handset = with_counts(self.handset, up, down);
-                Ok(Course { handset, ..self })
-            }
-            Given::Input(input) => self.step(alloc, input),
-        }
-    }
-
-    // A step, and its answer behind the others.
-    fn step(self, alloc: Global, input: UeInput) -> Result<Course, Refusal> {
-        let Course {
-            handset,
-            now,
-            held,
-            mut told,
-        } = self;
-        let (handset, outs) = match step(alloc, handset, now, &held, input) {
-            Ok((handset, outs)) => (handset, outs_text(alloc, &outs)?),
-            Err((_, StepRefusal::Memory)) => return Err(Refusal::Memory),
-            Err((handset, refusal)) => (handset, refusal_text(alloc, refusal)?),
-        };
-        let view = view_text(alloc, &handset.view())?;
-        if !told.is_empty() {
-            push(&mut told, " ")?;
-        }
-        push(&mut told, outs.as_str())?;
-        push(&mut told, view.as_str())?;
+    pub fn new(alloc: Global, config: &HandsetConfig) -> Result<Course, Refusal> {
+        let handset = Handset::new(alloc, config)?;
         Ok(Course {
             handset,
-            now,
-            held,
-            told,
+            told: String::new(alloc),
         })
     }
+
+    /// What comes of the next input, behind the other answers.
+    pub fn go(&mut self, alloc: Global, input: Input) -> Result<(), Refusal> {
+        let came = self.came(alloc, input)?;
+        let view = view_text(alloc, &self.handset.view())?;
+        if !self.told.is_empty() {
+            push(&mut self.told, " ")?;
+        }
+        push(&mut self.told, came.as_str())?;
+        push(&mut self.told, view.as_str())
+    }
+
+    // What comes of an input, with a comma behind each.
+    fn came(&mut self, alloc: Global, input: Input) -> Result<String, Refusal> {
+        match input {
+            Input::Command(command) => match self.handset.command(alloc, &command) {
+                Ok(sends) => sends_text(alloc, &sends),
+                Err(refusal) => refusal_text(alloc, refusal),
+            },
+            Input::Octets(octets) => {
+                let delivery = self.handset.deliver(alloc, &octets)?;
+                delivery_text(alloc, &delivery)
+            }
+            Input::Tick(now) => {
+                let sends = self.handset.tick(alloc, now)?;
+                sends_text(alloc, &sends)
+            }
+            Input::Drop => {
+                self.handset.drop_link(alloc)?;
+                Ok(String::new(alloc))
+            }
+            Input::Restart => {
+                self.handset.restart(alloc)?;
+                Ok(String::new(alloc))
+            }
+            Input::Copy => {
+                self.handset = self.handset.copy(alloc)?;
+                Ok(String::new(alloc))
+            }
+        }
+    }
 }
 
-fn push(line: &mut String, text: &str) -> Result<(), Refusal> {
+/// The text behind the line.
+pub fn push(line: &mut String, text: &str) -> Result<(), Refusal> {
     line.push_str(text).map_err(|_| Refusal::Memory)
-}
-
-// The handset with these next counts of the context in use, if there is one.
-fn with_counts(handset: UeMm, up: u32, down: u32) -> UeMm
-    requires { (up ≤ 2 ^ 24) × (down ≤ 2 ^ 24) }
-{
-    match handset {
-        UeMm::Deregistered(common) => UeMm::Deregistered(counted(common, up, down)),
-        UeMm::Registering(common, open) => UeMm::Registering(counted(common, up, down), open),
-        UeMm::Registered(common) => UeMm::Registered(counted(common, up, down)),
-        UeMm::Serving(common, open) => UeMm::Serving(counted(common, up, down), open),
-        UeMm::Deregistering(common, open) => UeMm::Deregistering(counted(common, up, down), open),
-    }
-}
-
-fn counted(common: Common, up: u32, down: u32) -> Common
-    requires { (up ≤ 2 ^ 24) × (down ≤ 2 ^ 24) }
-{
-    let current = match common.current {
-        Some(context) => Some(Context {
-            up,
-            down,
-            ..context
-        }),
-        None => None,
-    };
-    Common { current, ..common }
-}
-
-// The handset with this capability.
-fn with_capability(handset: UeMm, capability: Capability) -> UeMm {
-    match handset {
-        UeMm::Deregistered(common) => UeMm::Deregistered(capable(common, capability)),
-        UeMm::Registering(common, open) => UeMm::Registering(capable(common, capability), open),
-        UeMm::Registered(common) => UeMm::Registered(capable(common, capability)),
-        UeMm::Serving(common, open) => UeMm::Serving(capable(common, capability), open),
-        UeMm::Deregistering(common, open) => UeMm::Deregistering(capable(common, capability), open),
-    }
-}
-
-fn capable(mut common: Common, capability: Capability) -> Common {
-    common.config.capability = capability;
-    common
 }

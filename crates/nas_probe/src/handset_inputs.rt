@@ -1,61 +1,60 @@
 //! The words that are given to a handset; handset_calls lists them.
 
-use crate::words::{Refusal, kept, octets, quantity};
-use nas_base::{Kind, Moment, Octets, Psi};
-use nas_elements::{Capability, Dnn, Status};
-use nas_timers::TimerId;
+use crate::words::{Refusal, octets};
+use nas_base::{Kind, Moment};
+use nas_handset::UeCommand;
 use std::alloc::Global;
-use ue_mm::{MmCommand, UeInput};
 
 // 10^15, the last moment.
 const LAST_MOMENT: u64 = 1_000_000_000_000_000;
 
 /// What a word gives.
 #[derive(Drop)]
-pub enum Given {
-    /// The moment from here on.
-    Now(Moment),
-    /// The sessions that are held from here on.
-    Held(Status),
-    /// What security the handset is capable of, from here on.
-    Capability(Capability),
-    /// The next counts of the context in use, up and down.
-    Counts { up: u32, down: u32 },
-    Input(UeInput),
+pub enum Input {
+    Command(UeCommand),
+    /// Octets reach the handset.
+    Octets(Vec<u8>),
+    /// The moment is told.
+    Tick(Moment),
+    /// The connection is lost.
+    Drop,
+    /// The handset is switched off and on.
+    Restart,
+    /// A copy of the handset goes on in its place.
+    Copy,
 }
 
 /// What a word gives.
-pub fn read_given(alloc: Global, word: &str) -> Result<Given, Refusal> {
-    let Some((name, value)) = word.split_once(":") else {
-        return Ok(Given::Input(bare(word)?));
-    };
-    let input = match name {
-        "at" => return Ok(Given::Now(moment(value)?)),
-        "held" => return Ok(Given::Held(status(alloc, value)?)),
-        "capability" => return Ok(Given::Capability(capability(alloc, value)?)),
-        "counts" => return counts(value),
-        "octets" => UeInput::Delivered(message(alloc, value)?),
-        "expired" => UeInput::Expired(timer(value)?),
-        "carry" => carry(alloc, value)?,
-        _ => return Err(Refusal::Unreadable),
-    };
-    Ok(Given::Input(input))
+pub fn read_input(alloc: Global, word: &str) -> Result<Input, Refusal> {
+    match word.split_once(":") {
+        Some(("octets", value)) => Ok(Input::Octets(octets(alloc, value)?)),
+        Some(("tick", value)) => Ok(Input::Tick(moment(value)?)),
+        Some(_) => Err(Refusal::Unreadable),
+        None => bare(word),
+    }
 }
 
 // The input of a word that stands alone.
-fn bare(word: &str) -> Result<UeInput, Refusal> {
-    let command = match word {
-        "register" => MmCommand::Register(Kind::Initial),
-        "mobility" => MmCommand::Register(Kind::Mobility),
-        "periodic" => MmCommand::Register(Kind::Periodic),
-        "service" => MmCommand::Service,
-        "deregister" => MmCommand::Deregister { switch_off: false },
-        "switch-off" => MmCommand::Deregister { switch_off: true },
-        "drop" => return Ok(UeInput::Dropped),
-        "restart" => return Ok(UeInput::Restart),
-        _ => return Err(Refusal::Unreadable),
-    };
-    Ok(UeInput::Command(command))
+fn bare(word: &str) -> Result<Input, Refusal> {
+    match word {
+        "drop" => Ok(Input::Drop),
+        "restart" => Ok(Input::Restart),
+        "copy" => Ok(Input::Copy),
+        _ => Ok(Input::Command(command(word)?)),
+    }
+}
+
+/// A command to a handset.
+pub fn command(word: &str) -> Result<UeCommand, Refusal> {
+    match word {
+        "register" => Ok(UeCommand::Register(Kind::Initial)),
+        "mobility" => Ok(UeCommand::Register(Kind::Mobility)),
+        "periodic" => Ok(UeCommand::Register(Kind::Periodic)),
+        "service" => Ok(UeCommand::Service),
+        "deregister" => Ok(UeCommand::Deregister { switch_off: false }),
+        "switch-off" => Ok(UeCommand::Deregister { switch_off: true }),
+        _ => Err(Refusal::Unreadable),
+    }
 }
 
 fn moment(word: &str) -> Result<Moment, Refusal> {
@@ -63,62 +62,4 @@ fn moment(word: &str) -> Result<Moment, Refusal> {
         Ok(ms) if ms <= LAST_MOMENT => Ok(Moment(ms)),
         _ => Err(Refusal::Unreadable),
     }
-}
-
-fn capability(alloc: Global, word: &str) -> Result<Capability, Refusal> {
-    Capability::read(&octets(alloc, word)?).map_err(|_| Refusal::Unreadable)
-}
-
-fn counts(words: &str) -> Result<Given, Refusal> {
-    let Some((up, down)) = words.split_once(":") else {
-        return Err(Refusal::Unreadable);
-    };
-    Ok(Given::Counts {
-        up: quantity(up)?,
-        down: quantity(down)?,
-    })
-}
-
-fn status(alloc: Global, word: &str) -> Result<Status, Refusal> {
-    Status::read(&octets(alloc, word)?).map_err(|_| Refusal::Unreadable)
-}
-
-fn message(alloc: Global, word: &str) -> Result<Octets, Refusal> {
-    kept(alloc, &octets(alloc, word)?)
-}
-
-fn timer(word: &str) -> Result<TimerId, Refusal> {
-    match word {
-        "T3510" => Ok(TimerId::T3510),
-        "T3516" => Ok(TimerId::T3516),
-        "T3517" => Ok(TimerId::T3517),
-        "T3521" => Ok(TimerId::T3521),
-        "T3522" => Ok(TimerId::T3522),
-        "T3550" => Ok(TimerId::T3550),
-        "T3560" => Ok(TimerId::T3560),
-        _ => Err(Refusal::Unreadable),
-    }
-}
-
-fn carry(alloc: Global, words: &str) -> Result<UeInput, Refusal> {
-    let Some((number, words)) = words.split_once(":") else {
-        return Err(Refusal::Unreadable);
-    };
-    let (frame, dnn) = match words.split_once(":") {
-        Some((frame, dnn)) => (frame, Some(network(alloc, dnn)?)),
-        None => (words, None),
-    };
-    let psi = match u8::try_from(quantity(number)?) {
-        Ok(number) => Psi::from_number(number).ok_or(Refusal::Unreadable)?,
-        Err(_) => return Err(Refusal::Unreadable),
-    };
-    Ok(UeInput::Carry {
-        psi,
-        dnn,
-        frame: message(alloc, frame)?,
-    })
-}
-
-fn network(alloc: Global, word: &str) -> Result<Dnn, Refusal> {
-    Dnn::read(&octets(alloc, word)?).map_err(|_| Refusal::Unreadable)
 }

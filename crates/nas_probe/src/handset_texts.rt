@@ -1,32 +1,50 @@
 //! What a handset answers, as text; handset_calls lists its forms.
 
 use crate::words::{Refusal, text};
-use nas_base::{Supi, Writer};
-use nas_elements::{Guti, Status};
-use nas_security::{Challenge, Context, Pass};
+use nas_base::{MmWord, Octets, Supi, Writer};
+use nas_elements::Guti;
+use nas_handset::{CommandRefusal, Delivery};
+use nas_security::{Challenge, Context, Pass, Sends};
 use std::alloc::{AllocError, Global};
-use ue_mm::{StepRefusal, UeOut, UeOuts, UeView};
+use ue_mm::UeView;
 
-/// What went out, with a comma behind each.
-pub fn outs_text(alloc: Global, outs: &UeOuts) -> Result<String, Refusal> {
+/// The messages that were sent, with a comma behind each.
+pub fn sends_text(alloc: Global, sends: &Sends) -> Result<String, Refusal> {
     let mut line = String::new(alloc);
-    for out in &outs.items {
-        let out = out_text(alloc, out)?;
-        line.push_str(out.as_str()).map_err(|_| Refusal::Memory)?;
-        line.push(',').map_err(|_| Refusal::Memory)?;
+    add_sends(alloc, sends, &mut line)?;
+    Ok(line)
+}
+
+/// What came of octets, with a comma behind each.
+pub fn delivery_text(alloc: Global, delivery: &Delivery) -> Result<String, Refusal> {
+    let mut line = String::new(alloc);
+    if let Some(pass) = &delivery.passed {
+        add(&mut line, passed_text(alloc, pass)?)?;
     }
+    if let Some(context) = &delivery.took {
+        add(&mut line, took_text(alloc, context)?)?;
+    }
+    add_sends(alloc, &delivery.sends, &mut line)?;
     Ok(line)
 }
 
 /// Why a command was refused, with a comma behind it.
-pub fn refusal_text(alloc: Global, refusal: StepRefusal) -> Result<String, Refusal> {
+pub fn refusal_text(alloc: Global, refusal: CommandRefusal) -> Result<String, Refusal> {
     match refusal {
-        StepRefusal::WrongState { state } => {
-            word(format!(in alloc; "refused:wrong_state:{state:?},"))
-        }
-        StepRefusal::Spent { next } => word(format!(in alloc; "refused:spent:{next},")),
-        StepRefusal::Memory => Err(Refusal::Memory),
+        CommandRefusal::WrongState { state } => wrong_state_text(alloc, state),
+        CommandRefusal::Spent { next } => spent_text(alloc, next),
+        CommandRefusal::Memory => Err(Refusal::Memory),
     }
+}
+
+/// That a command doesn't begin in this state, with a comma behind it.
+pub fn wrong_state_text(alloc: Global, state: MmWord) -> Result<String, Refusal> {
+    word(format!(in alloc; "refused:wrong_state:{state:?},"))
+}
+
+/// That no count is left, with a comma behind it.
+pub fn spent_text(alloc: Global, next: u32) -> Result<String, Refusal> {
+    word(format!(in alloc; "refused:spent:{next},"))
 }
 
 /// What can be seen.
@@ -50,54 +68,47 @@ pub fn view_text(alloc: Global, view: &UeView) -> Result<String, Refusal> {
     ))
 }
 
-// One thing that went out.
-fn out_text(alloc: Global, out: &UeOut) -> Result<String, Refusal> {
-    match out {
-        UeOut::Send {
-            fresh,
-            octets,
-            pass,
-        } => sent_text(alloc, *fresh, octets.as_slice(), pass),
-        UeOut::Passed(pass) => {
-            let pass = pass_text(alloc, pass)?;
-            word(format!(in alloc; "passed:{pass}"))
-        }
-        UeOut::Took(context) => {
-            let context = context_text(alloc, context)?;
-            word(format!(in alloc; "took:{context}"))
-        }
-        UeOut::ToSession(octets) => {
-            let octets = text(alloc, octets.as_slice())?;
-            word(format!(in alloc; "to_session:{octets}"))
-        }
-        UeOut::NotForwarded(octets) => {
-            let octets = text(alloc, octets.as_slice())?;
-            word(format!(in alloc; "not_forwarded:{octets}"))
-        }
-        UeOut::Abandon => word(String::from_str(alloc, "abandon")),
-        UeOut::Clear => word(String::from_str(alloc, "clear")),
-        UeOut::Keep(held) => keep_text(alloc, held),
-        UeOut::Start { id, at } => {
-            let at = at.0;
-            word(format!(in alloc; "start:{id:?}:{at}"))
-        }
-        UeOut::Stop(id) => word(format!(in alloc; "stop:{id:?}")),
-    }
+/// The check that a message passed.
+pub fn passed_text(alloc: Global, pass: &Pass) -> Result<String, Refusal> {
+    let pass = pass_text(alloc, pass)?;
+    word(format!(in alloc; "passed:{pass}"))
 }
 
-fn sent_text(
+/// The context that was taken into use.
+pub fn took_text(alloc: Global, context: &Context) -> Result<String, Refusal> {
+    let context = context_text(alloc, context)?;
+    word(format!(in alloc; "took:{context}"))
+}
+
+/// The text and a comma behind the line.
+pub fn add(line: &mut String, text: String) -> Result<(), Refusal> {
+    line.push_str(text.as_str()).map_err(|_| Refusal::Memory)?;
+    line.push(',').map_err(|_| Refusal::Memory)
+}
+
+/// A message that is sent.
+pub fn sent_text(
     alloc: Global,
     fresh: bool,
-    octets: &[u8],
+    octets: &Octets,
     pass: &Option<Pass>,
 ) -> Result<String, Refusal> {
     let name = if fresh { "fresh" } else { "sent" };
-    let octets = text(alloc, octets)?;
+    let octets = text(alloc, octets.as_slice())?;
     let pass = match pass {
         Some(pass) => pass_text(alloc, pass)?,
         None => word(String::from_str(alloc, "plain"))?,
     };
     word(format!(in alloc; "{name}:{octets}:{pass}"))
+}
+
+// The messages that were sent behind the line, with a comma behind each.
+fn add_sends(alloc: Global, sends: &Sends, line: &mut String) -> Result<(), Refusal> {
+    for send in sends.as_slice() {
+        let sent = sent_text(alloc, send.fresh, &send.octets, &send.pass)?;
+        add(line, sent)?;
+    }
+    Ok(())
 }
 
 fn pass_text(alloc: Global, pass: &Pass) -> Result<String, Refusal> {
@@ -140,19 +151,11 @@ fn guti_text(alloc: Global, guti: &Guti) -> Result<String, Refusal> {
     }
 }
 
-fn keep_text(alloc: Global, held: &Status) -> Result<String, Refusal> {
-    let mut out = Writer::new();
-    if held.write(&mut out).is_err() {
-        return Err(Refusal::Unreadable);
-    }
-    let held = text(alloc, out.octets())?;
-    word(format!(in alloc; "keep:{held}"))
-}
-
 fn none(alloc: Global) -> Result<String, Refusal> {
     word(String::from_str(alloc, "none"))
 }
 
-fn word(line: Result<String, AllocError>) -> Result<String, Refusal> {
+/// A text that was made.
+pub fn word(line: Result<String, AllocError>) -> Result<String, Refusal> {
     line.map_err(|_| Refusal::Memory)
 }

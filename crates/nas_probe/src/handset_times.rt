@@ -3,15 +3,16 @@
 ghost use Rattle.std.specs.Prelude.{◌≤◌};
 
 use crate::frame_calls::sum_of;
-use crate::handset_calls::{K, OPC, config};
+use crate::handset_calls::{K, OPC, config, standard_capability};
 use crate::words::{Refusal, kept, octets};
 use key_chain::{kamf, kausf, kseaf, nas_keys};
 use milenage::f2345;
-use nas_base::{Dir, Kind, Ksi, Moment, Octets, Writer};
-use nas_elements::{Algs, Status};
-use nas_security::{Challenge, Context, protect};
+use nas_base::{Dir, Kind, Ksi, Octets, Writer};
+use nas_elements::Algs;
+use nas_handset::{Handset, UeCommand};
+use nas_security::{Challenge, Context, Sends, protect};
 use std::alloc::Global;
-use ue_mm::{HandsetConfig, MmCommand, UeInput, UeMm, UeOut, UeOuts, step};
+use ue_mm::HandsetConfig;
 
 // The sequence number and RAND of TS 35.208 test set 1, and its SQN XOR AK.
 const SQN: u64 = 0xff9b_b4d0_b607;
@@ -43,7 +44,7 @@ struct Downlinks {
 
 /// Registers a handset anew so often.
 pub fn registrations(alloc: Global, times: u32) -> Result<u64, Refusal> {
-    let config = config(SQN - 1)?;
+    let config = config(SQN - 1, standard_capability()?)?;
     let downlinks = make_downlinks(alloc, &config)?;
     let mut sum = 0u64;
     for _ in 0..times {
@@ -55,13 +56,11 @@ pub fn registrations(alloc: Global, times: u32) -> Result<u64, Refusal> {
 
 /// Delivers the accept so often again to a handset that took it: its MAC is that of a count that is gone.
 pub fn discarded(alloc: Global, times: u32) -> Result<u64, Refusal> {
-    let config = config(SQN - 1)?;
+    let config = config(SQN - 1, standard_capability()?)?;
     let downlinks = make_downlinks(alloc, &config)?;
     let (mut handset, mut sum) = registered(alloc, &config, &downlinks)?;
     for _ in 0..times {
-        let (same, more) = delivered(alloc, handset, &downlinks.accept)?;
-        handset = same;
-        sum = sum.wrapping_add(more);
+        sum = sum.wrapping_add(delivered(alloc, &mut handset, &downlinks.accept)?);
     }
     Ok(sum)
 }
@@ -71,35 +70,29 @@ fn registered(
     alloc: Global,
     config: &HandsetConfig,
     downlinks: &Downlinks,
-) -> Result<(UeMm, u64), Refusal> {
-    let register = UeInput::Command(MmCommand::Register(Kind::Initial));
-    let (handset, first) = stepped(alloc, UeMm::new(config), register)?;
-    let (handset, second) = delivered(alloc, handset, &downlinks.challenge)?;
-    let (handset, third) = delivered(alloc, handset, &downlinks.command)?;
-    let (handset, fourth) = delivered(alloc, handset, &downlinks.accept)?;
+) -> Result<(Handset, u64), Refusal> {
+    let mut handset = Handset::new(alloc, config)?;
+    let first = match handset.command(alloc, &UeCommand::Register(Kind::Initial)) {
+        Ok(sends) => sum_sent(&sends),
+        Err(_) => return Err(Refusal::Memory),
+    };
+    let second = delivered(alloc, &mut handset, &downlinks.challenge)?;
+    let third = delivered(alloc, &mut handset, &downlinks.command)?;
+    let fourth = delivered(alloc, &mut handset, &downlinks.accept)?;
     let sum = first.wrapping_add(second).wrapping_add(third);
     Ok((handset, sum.wrapping_add(fourth)))
 }
 
-fn delivered(alloc: Global, handset: UeMm, octets: &Octets) -> Result<(UeMm, u64), Refusal> {
-    let octets = kept(alloc, octets.as_slice())?;
-    stepped(alloc, handset, UeInput::Delivered(octets))
+// Delivers a message, and answers a sum of what was sent.
+fn delivered(alloc: Global, handset: &mut Handset, octets: &Octets) -> Result<u64, Refusal> {
+    let delivery = handset.deliver(alloc, octets.as_slice())?;
+    Ok(sum_sent(&delivery.sends))
 }
 
-// A step, and a sum of what was sent.
-fn stepped(alloc: Global, handset: UeMm, input: UeInput) -> Result<(UeMm, u64), Refusal> {
-    match step(alloc, handset, Moment(0), &Status::empty(), input) {
-        Ok((handset, outs)) => Ok((handset, sent(&outs))),
-        Err(_) => Err(Refusal::Memory),
-    }
-}
-
-fn sent(outs: &UeOuts) -> u64 {
+fn sum_sent(sends: &Sends) -> u64 {
     let mut sum = 0u64;
-    for out in &outs.items {
-        if let UeOut::Send { octets, .. } = out {
-            sum = sum.wrapping_add(sum_of(octets.as_slice()));
-        }
+    for send in sends.as_slice() {
+        sum = sum.wrapping_add(sum_of(send.octets.as_slice()));
     }
     sum
 }

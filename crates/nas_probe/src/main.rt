@@ -17,6 +17,10 @@ mod handset_times;
 mod key_calls;
 mod message_calls;
 mod milenage_calls;
+mod mobility_calls;
+mod mobility_course;
+mod mobility_inputs;
+mod mobility_texts;
 mod qos_calls;
 mod words;
 

@@ -3,7 +3,7 @@ ghost use Rattle.std.specs.Prelude.{◌≤◌, ◌<◌, ◌^◌, length, IfOk};
 
 use arrayvec::ArrayVec;
 use hex::FromHexError;
-use nas_base::{Count, Dir, Octets, OctetsRefusal, Plmn, Supi};
+use nas_base::{Count, Dir, Memory, Octets, OctetsRefusal, Plmn, Supi};
 use std::alloc::Global;
 
 /// Why a line has no answer of its own.
@@ -12,6 +12,12 @@ pub enum Refusal {
     /// No call has this name, or its arguments aren't of its form.
     Unreadable,
     Memory,
+}
+
+impl From<Memory> for Refusal {
+    fn from(_want: Memory) -> Refusal {
+        Refusal::Memory
+    }
 }
 
 /// A key or a block: 16 octets.

@@ -1,0 +1,107 @@
+//! The words that are given to a handset's 5GMM; mobility_calls lists them.
+
+use crate::handset_inputs::command;
+use crate::words::{Refusal, kept, octets, quantity};
+use nas_base::{Octets, Psi};
+use nas_elements::{Dnn, Status};
+use nas_handset::UeCommand;
+use nas_timers::TimerId;
+use std::alloc::Global;
+use ue_mm::{MmCommand, UeInput};
+
+/// What a word gives.
+#[derive(Drop)]
+pub enum Given {
+    /// The sessions that are held from here on.
+    Held(Status),
+    /// The next counts of the context in use, up and down.
+    Counts { up: u32, down: u32 },
+    Input(UeInput),
+}
+
+/// What a word gives.
+pub fn read_given(alloc: Global, word: &str) -> Result<Given, Refusal> {
+    let Some((name, value)) = word.split_once(":") else {
+        return Ok(Given::Input(bare(word)?));
+    };
+    let input = match name {
+        "held" => return Ok(Given::Held(status(alloc, value)?)),
+        "counts" => return counts(value),
+        "octets" => UeInput::Delivered(message(alloc, value)?),
+        "expired" => UeInput::Expired(timer(value)?),
+        "carry" => carry(alloc, value)?,
+        _ => return Err(Refusal::Unreadable),
+    };
+    Ok(Given::Input(input))
+}
+
+// The input of a word that stands alone.
+fn bare(word: &str) -> Result<UeInput, Refusal> {
+    match word {
+        "drop" => Ok(UeInput::Dropped),
+        "restart" => Ok(UeInput::Restart),
+        _ => Ok(UeInput::Command(to_mm(command(word)?))),
+    }
+}
+
+fn to_mm(command: UeCommand) -> MmCommand {
+    match command {
+        UeCommand::Register(kind) => MmCommand::Register(kind),
+        UeCommand::Service => MmCommand::Service,
+        UeCommand::Deregister { switch_off } => MmCommand::Deregister { switch_off },
+    }
+}
+
+fn counts(words: &str) -> Result<Given, Refusal> {
+    let Some((up, down)) = words.split_once(":") else {
+        return Err(Refusal::Unreadable);
+    };
+    Ok(Given::Counts {
+        up: quantity(up)?,
+        down: quantity(down)?,
+    })
+}
+
+fn status(alloc: Global, word: &str) -> Result<Status, Refusal> {
+    Status::read(&octets(alloc, word)?).map_err(|_| Refusal::Unreadable)
+}
+
+fn message(alloc: Global, word: &str) -> Result<Octets, Refusal> {
+    kept(alloc, &octets(alloc, word)?)
+}
+
+fn timer(word: &str) -> Result<TimerId, Refusal> {
+    match word {
+        "T3510" => Ok(TimerId::T3510),
+        "T3516" => Ok(TimerId::T3516),
+        "T3517" => Ok(TimerId::T3517),
+        "T3521" => Ok(TimerId::T3521),
+        "T3522" => Ok(TimerId::T3522),
+        "T3550" => Ok(TimerId::T3550),
+        "T3560" => Ok(TimerId::T3560),
+        _ => Err(Refusal::Unreadable),
+    }
+}
+
+fn carry(alloc: Global, words: &str) -> Result<UeInput, Refusal> {
+    let Some((number, words)) = words.split_once(":") else {
+        return Err(Refusal::Unreadable);
+    };
+    let (frame, dnn) = match words.split_once(":") {
+        Some((frame, dnn)) => (frame, Some(network(alloc, dnn)?)),
+        None => (words, None),
+    };
+    let psi = match u8::try_from(quantity(number)?) {
+        Ok(number) => Psi::from_number(number).ok_or(Refusal::Unreadable)?,
+        Err(_) => return Err(Refusal::Unreadable),
+    };
+    Ok(UeInput::Carry {
+        psi,
+        dnn,
+        frame: message(alloc, frame)?,
+    })
+}
+
+fn network(alloc: Global, word: &str) -> Result<Dnn, Refusal> {
+    Dnn::read(&octets(alloc, word)?).map_err(|_| Refusal::Unreadable)
+}
