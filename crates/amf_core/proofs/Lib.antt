@@ -1,2 +1,0 @@
-pub mod Sqns
-pub mod Taking
