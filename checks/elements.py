@@ -2,11 +2,9 @@
 
 usage: elements.py MODEL PROBE [LINES [SEED]]
 """
-import os
-import random
 import sys
 
-from probe import compare, text
+from probe import against_model, text
 
 
 class OfType:
@@ -87,18 +85,10 @@ def case(rng, codec, calls):
     return f"{call} {text(octets)}", answer(codec, reader, octets)
 
 
-def main():
-    model, probe = sys.argv[1:3]
-    lines = int(sys.argv[3]) if len(sys.argv) > 3 else 4000
-    seed = int(sys.argv[4]) if len(sys.argv) > 4 else 1
-    sys.path.insert(0, os.path.dirname(os.path.abspath(model)))
-    import nas_codec as codec
-
-    rng = random.Random(seed)
+def cases(rng, codec, lines):
     calls = readers(codec)
-    cases = [case(rng, codec, calls) for _ in range(lines)]
-    return compare("elements", probe, cases, "the model", seed)
+    return [case(rng, codec, calls) for _ in range(lines)]
 
 
 if __name__ == "__main__":
-    sys.exit(main())
+    sys.exit(against_model("elements", cases))

@@ -2,12 +2,10 @@
 
 usage: messages.py MODEL PROBE [LINES [SEED]]
 """
-import os
-import random
 import sys
 
 from elements import mutated
-from probe import compare, text
+from probe import against_model, text
 
 # A message of each type, or more, to start from.
 MESSAGES = [
@@ -114,17 +112,9 @@ def case(rng, codec):
     return f"{read.__name__} {text(octets)}", decoded(read, codec, octets)
 
 
-def main():
-    model, probe = sys.argv[1:3]
-    lines = int(sys.argv[3]) if len(sys.argv) > 3 else 4000
-    seed = int(sys.argv[4]) if len(sys.argv) > 4 else 1
-    sys.path.insert(0, os.path.dirname(os.path.abspath(model)))
-    import nas_codec as codec
-
-    rng = random.Random(seed)
-    cases = [case(rng, codec) for _ in range(lines)]
-    return compare("messages", probe, cases, "the model", seed)
+def cases(rng, codec, lines):
+    return [case(rng, codec) for _ in range(lines)]
 
 
 if __name__ == "__main__":
-    sys.exit(main())
+    sys.exit(against_model("messages", cases))

@@ -1,6 +1,9 @@
 """Hands lines to nas_probe, and compares each answer with the one that is wanted."""
 
+import os
+import random
 import subprocess
+import sys
 
 
 def text(octets):
@@ -26,3 +29,14 @@ def compare(name, probe, cases, yardstick, seed):
             return 1
     print(f"{name}: {len(cases)} lines agree with {yardstick} (seed {seed})")
     return 0
+
+
+def against_model(name, cases):
+    """Compares with the codec of a model by the words MODEL PROBE [LINES [SEED]]; `cases(rng, codec, lines)` are so many cases."""
+    model, probe = sys.argv[1:3]
+    lines = int(sys.argv[3]) if len(sys.argv) > 3 else 4000
+    seed = int(sys.argv[4]) if len(sys.argv) > 4 else 1
+    sys.path.insert(0, os.path.dirname(os.path.abspath(model)))
+    import nas_codec as codec
+
+    return compare(name, probe, cases(random.Random(seed), codec, lines), "the model", seed)

@@ -3,11 +3,10 @@
 usage: qos.py MODEL PROBE [LINES [SEED]]
 """
 import os
-import random
 import sys
 
 from elements import mutated
-from probe import compare, text
+from probe import against_model, text
 
 SIZES = {0x01: 0, 0x10: 8, 0x11: 8, 0x30: 1, 0x40: 2, 0x50: 2, 0x41: 4, 0x51: 4}
 
@@ -126,16 +125,9 @@ def case(rng, codec):
     return ops_case(rng, codec) if rng.random() < 0.5 else apply_case(rng, codec)
 
 
-def main():
-    model, probe = sys.argv[1:3]
-    lines = int(sys.argv[3]) if len(sys.argv) > 3 else 4000
-    seed = int(sys.argv[4]) if len(sys.argv) > 4 else 1
-    sys.path.insert(0, os.path.dirname(os.path.abspath(model)))
-    import nas_codec as codec
-
-    rng = random.Random(seed)
-    return compare("qos", probe, [case(rng, codec) for _ in range(lines)], "the model", seed)
+def cases(rng, codec, lines):
+    return [case(rng, codec) for _ in range(lines)]
 
 
 if __name__ == "__main__":
-    sys.exit(main())
+    sys.exit(against_model("qos", cases))
