@@ -2,7 +2,6 @@
 
 usage: qos.py MODEL PROBE [LINES [SEED]]
 """
-import os
 import sys
 
 from elements import mutated
