@@ -1,7 +1,0 @@
-mod Beginnings
-mod Changed
-mod Due
-mod FirstOwners
-mod Owners
-mod Running
-mod Supis

@@ -1,6 +1,0 @@
-pub mod Config
-pub mod Network
-pub mod Owners
-pub mod State
-pub mod Ticks
-pub mod Turns
