@@ -1,0 +1,2 @@
+pub mod Sqns
+pub mod Taking

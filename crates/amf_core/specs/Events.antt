@@ -1,0 +1,134 @@
+-- Timers that expire, what the SMF wants, and links that are lost.
+use Rattle.std.specs.Prelude.{ℕ, ◌+◌, Bool, true, false, nat_lt, List, Option, Some, None}
+use Rattle.nas_base.specs.Branches.{per, when◌then◌else◌}
+use Rattle.nas_timers.specs.declared.timer_id.TimerId.{TimerId}
+use Rattle.nas_timers.specs.declared.timer_id.TimerId.TheVariants.{T3510, T3516, T3517, T3521, T3522, T3550, T3560, T3580, T3581, T3582, T3591, T3592}
+use Rattle.amf_core.specs.Challenges.{challenge, challenge_open, challenge_put, ended, idle}
+use Rattle.amf_core.specs.Commands.{is_idle}
+use Rattle.amf_core.specs.declared.config.Configured.{Configured}
+use Rattle.amf_core.specs.Deregistration.{deregistered, deregistration_put, unregistered}
+use Rattle.amf_core.specs.Registration.{acceptance, is_on}
+use Rattle.amf_core.specs.State.{unused}
+use Rattle.amf_core.specs.Transport.{brought_down}
+use Rattle.amf_core.specs.Work.{ask, config_of, link_of, put, put_link, say_on, start, subscriber}
+use Rattle.amf_core.specs.declared.acts.Protection.TheVariants.{Ciphered}
+use Rattle.amf_core.specs.declared.link.Link.{Link}
+use Rattle.amf_core.specs.declared.outs.SmfAsk.TheVariants.{ReleaseAll}
+use Rattle.amf_core.specs.declared.procedures.Accepting.{Accepting}
+use Rattle.amf_core.specs.declared.procedures.Challenging.{Challenging}
+use Rattle.amf_core.specs.declared.procedures.Deregistering.{Deregistering}
+use Rattle.amf_core.specs.declared.procedures.Procedure.{Procedure}
+use Rattle.amf_core.specs.declared.procedures.Procedure.TheVariants as procedures
+use Rattle.amf_core.specs.declared.procedures.Purpose.TheVariants.{Command}
+use Rattle.amf_core.specs.declared.subscriber.Subscriber.{Subscriber}
+use Rattle.amf_core.specs.declared.work.Work.{Work}
+
+-- Each message is sent five times at most, at the fifth expiry its procedure ends (clauses 5.4.1.3.7, 5.4.2.7, 5.5.1.2.8 and 5.5.2.3.5).
+abbrev pub is_left : ℕ → Bool
+is_left sendings = nat_lt sendings 5
+
+-- T3560: the same AUTHENTICATION REQUEST or SECURITY MODE COMMAND, on the challenge's link
+abbrev pub challenge_again : Challenging → Challenging
+challenge_again c = record c { sendings = c.sendings + 1 }
+
+abbrev pub challenging_expired : Challenging → Subscriber → Work → Work
+challenging_expired c s w =
+    when is_left c.sendings then challenge_put (challenge_again c) (challenge_open (challenge_again c) s) w else put (idle s) w
+
+-- T3550: the same REGISTRATION ACCEPT, on the subscriber's link; where it isn't confirmed, both 5G-GUTIs stay kept
+abbrev pub acceptance_again : Accepting → Accepting
+acceptance_again a = record a { sendings = a.sendings + 1 }
+
+abbrev pub acceptance_resent : Accepting → Subscriber → Work → Work
+acceptance_resent a s w = say_on s.link (Ciphered s.supi) (acceptance (config_of w) a s) w
+
+abbrev pub accepting_expired : Accepting → Subscriber → Work → Work
+accepting_expired a s w =
+    when is_left a.sendings
+    then start T3550 s (acceptance_resent (acceptance_again a) s (put (record s { procedure = procedures.Accepting (acceptance_again a) }) w))
+    else put (idle s) w
+
+-- T3522: the same DEREGISTRATION REQUEST; at the end as if it had been accepted
+abbrev pub deregistering_expired : Deregistering → Subscriber → Work → Work
+deregistering_expired d s w =
+    when is_left d.sendings then deregistration_put (record { sendings = d.sendings + 1 }) s w
+    else ask ReleaseAll s (put (unregistered s) w)
+
+-- A timer whose procedure has ended finds no owner.
+abbrev pub of_challenge : Procedure → Subscriber → Work → Work
+of_challenge (procedures.Challenging c) s w = challenging_expired c s w
+of_challenge procedures.Idle s w = w
+of_challenge (procedures.Accepting a) s w = w
+of_challenge (procedures.Deregistering d) s w = w
+
+abbrev pub of_acceptance : Procedure → Subscriber → Work → Work
+of_acceptance (procedures.Accepting a) s w = accepting_expired a s w
+of_acceptance procedures.Idle s w = w
+of_acceptance (procedures.Challenging c) s w = w
+of_acceptance (procedures.Deregistering d) s w = w
+
+abbrev pub of_deregistration : Procedure → Subscriber → Work → Work
+of_deregistration (procedures.Deregistering d) s w = deregistering_expired d s w
+of_deregistration procedures.Idle s w = w
+of_deregistration (procedures.Challenging c) s w = w
+of_deregistration (procedures.Accepting a) s w = w
+
+unfoldable pub expired_of : TimerId → Subscriber → Work → Work
+expired_of T3560 s w = of_challenge s.procedure s w
+expired_of T3550 s w = of_acceptance s.procedure s w
+expired_of T3522 s w = of_deregistration s.procedure s w
+expired_of T3510 s w = w
+expired_of T3516 s w = w
+expired_of T3517 s w = w
+expired_of T3521 s w = w
+expired_of (T3580 psi) s w = w
+expired_of (T3581 psi) s w = w
+expired_of (T3582 psi) s w = w
+expired_of (T3591 psi) s w = w
+expired_of (T3592 psi) s w = w
+
+-- what is done with the subscriber of a SUPI, nothing where it isn't kept
+abbrev pub of_supi : List ℕ → (Subscriber → Work → Work) → Work → Work
+of_supi supi row w = per (subscriber supi w) w (λ (s : Subscriber). row s w)
+
+unfoldable pub expired : List ℕ → TimerId → Work → Work
+expired supi id w = of_supi supi (expired_of id) w
+
+-- The SMF wants a security mode procedure: a challenge starts where no procedure is open.
+abbrev pub fenced_of : Subscriber → Work → Work
+fenced_of s w = when is_idle s.procedure then challenge Command s.link None s w else w
+
+unfoldable pub fenced : List ℕ → Work → Work
+fenced supi w = of_supi supi fenced_of w
+
+-- the SMF tells which sessions there are
+abbrev pub sessions_told_of : List Bool → Subscriber → Work → Work
+sessions_told_of status s w = put (record s { status = status }) w
+
+unfoldable pub sessions_told : List ℕ → List Bool → Work → Work
+sessions_told supi status w = of_supi supi (sessions_told_of status) w
+
+-- the SMF has a message for the handset
+unfoldable pub carried_down : List ℕ → ℕ → List ℕ → Work → Work
+carried_down supi psi frame w = of_supi supi (brought_down psi frame) w
+
+-- A link is lost: it is as if nothing had been exchanged on it. The subscriber that it last passed or challenged has no link by it any
+-- more, and no challenge on it; what else is open stays open.
+abbrev pub unlinked : ℕ → Subscriber → Subscriber
+unlinked number s = record s { link = when is_on number s.link then None else s.link }
+
+abbrev pub is_challenged_on : ℕ → Procedure → Bool
+is_challenged_on number (procedures.Challenging c) = is_on number c.link
+is_challenged_on number procedures.Idle = false
+is_challenged_on number (procedures.Accepting a) = false
+is_challenged_on number (procedures.Deregistering d) = false
+
+abbrev pub link_lost_of : ℕ → Subscriber → Work → Work
+link_lost_of number s w =
+    when is_challenged_on number s.procedure then ended (unlinked number s) w else put (unlinked number s) w
+
+abbrev pub lost_for : Option (List ℕ) → ℕ → Work → Work
+lost_for supi number w = per supi w (λ (x : List ℕ). of_supi x (link_lost_of number) w)
+
+unfoldable pub dropped : ℕ → Work → Work
+dropped number w = lost_for (link_of number w).supi number (put_link (unused number) w)

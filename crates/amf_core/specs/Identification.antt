@@ -1,0 +1,24 @@
+-- IDENTITY RESPONSE (TS 24.501 clause 5.4.3).
+use Rattle.std.specs.Prelude.{ℕ, Option, None}
+use Rattle.nas_base.specs.Branches.{per}
+use Rattle.nas_elements.specs.Suci.{SuciParts}
+use Rattle.nas_elements.specs.declared.identity.Identity.{Identity}
+use Rattle.nas_elements.specs.declared.identity.Identity.TheVariants as identities
+use Rattle.amf_core.specs.Naming.{named_by_suci}
+use Rattle.amf_core.specs.Registration.{request_by_suci}
+use Rattle.amf_core.specs.Work.{link_of, put_link}
+use Rattle.amf_core.specs.declared.requests.Request.{Request}
+use Rattle.amf_core.specs.declared.work.Work.{Work}
+
+-- the request that waited for it goes on with the subscriber of the SUCI, and waits no longer; it counts as one that didn't pass
+abbrev pub waited : ℕ → SuciParts → Request → Work → Work
+waited number x r w = request_by_suci number None r (named_by_suci x w) (put_link (record (link_of number w) { waiting = None }) w)
+
+abbrev pub suci_told : ℕ → SuciParts → Work → Work
+suci_told number x w = per (link_of number w).waiting w (λ (r : Request). waited number x r w)
+
+unfoldable pub identity_told : ℕ → Identity → Work → Work
+identity_told number (identities.Suci x) w = suci_told number x w
+identity_told number (identities.Guti g) w = w
+identity_told number (identities.Stmsi t) w = w
+identity_told number (identities.Other octets) w = w

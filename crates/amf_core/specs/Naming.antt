@@ -1,0 +1,55 @@
+-- Whom an identity names (TS 24.501 clause 9.11.3.4).
+use Rattle.std.specs.Prelude.{ℕ, Bool, true, false, ◌==◌, ◌&&◌, ◌||◌, List, [], ◌∷◌, ◌++◌, Option, Some, None, if◌then◌else◌}
+use Rattle.std.specs.Str.{bytes_eq}
+use Rattle.nas_base.specs.Plmn.{PlmnIdentity, plmn_digits}
+use Rattle.nas_elements.specs.Suci.{SuciParts}
+use Rattle.nas_elements.specs.declared.guti.Guti.{Guti}
+use Rattle.nas_elements.specs.declared.guti.Stmsi.{Stmsi}
+use Rattle.nas_elements.specs.declared.identity.Identity.{Identity}
+use Rattle.nas_elements.specs.declared.identity.Identity.TheVariants as identities
+use Rattle.amf_core.specs.Drafts.{by_now}
+use Rattle.amf_core.specs.Keyed.{found}
+use Rattle.amf_core.specs.Work.{subscriber}
+use Rattle.amf_core.specs.declared.subscriber.Subscriber.{Subscriber}
+use Rattle.amf_core.specs.declared.work.Work.{Work}
+
+-- A SUCI names the subscriber whose SUPI has its digits, wherever the MNC ends. The routing indicator is passed over.
+abbrev pub suci_digits : SuciParts → List ℕ
+suci_digits s = plmn_digits s.plmn ++ s.msin
+
+abbrev pub named_by_suci : SuciParts → Work → Option Subscriber
+named_by_suci s w = subscriber (suci_digits s) w
+
+-- a 5G-GUTI, and a 5G-S-TMSI, names the subscriber for whom it is kept
+abbrev pub is_plmn_of : PlmnIdentity → PlmnIdentity → Bool
+is_plmn_of one other = bytes_eq one.mcc other.mcc && bytes_eq one.mnc other.mnc
+
+abbrev pub is_guti : Guti → Guti → Bool
+is_guti one other =
+    is_plmn_of one.plmn other.plmn && one.region == other.region && one.set_pointer == other.set_pointer && one.tmsi == other.tmsi
+
+abbrev pub is_short_for : Stmsi → Guti → Bool
+is_short_for s g = s.set_pointer == g.set_pointer && s.tmsi == g.tmsi
+
+abbrev pub is_any : {A : Type 0} → (A → Bool) → List A → Bool
+is_any is [] = false
+is_any is (x ∷ xs) = if is x then true else is_any is xs
+
+abbrev pub keeps_guti : Guti → Subscriber → Bool
+keeps_guti g s = is_any (is_guti g) s.kept
+
+abbrev pub keeps_stmsi : Stmsi → Subscriber → Bool
+keeps_stmsi t s = is_any (is_short_for t) s.kept
+
+abbrev pub keeper : Guti → Work → Option Subscriber
+keeper g w = found (keeps_guti g) (by_now w.amf).subscribers
+
+abbrev pub short_keeper : Stmsi → Work → Option Subscriber
+short_keeper t w = found (keeps_stmsi t) (by_now w.amf).subscribers
+
+-- for whom the identity of a request is kept
+abbrev pub kept_for : Identity → Work → Option Subscriber
+kept_for (identities.Guti g) w = keeper g w
+kept_for (identities.Stmsi t) w = short_keeper t w
+kept_for (identities.Suci s) w = None
+kept_for (identities.Other octets) w = None

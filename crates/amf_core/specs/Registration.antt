@@ -1,0 +1,135 @@
+-- REGISTRATION REQUEST (TS 24.501 clauses 5.5.1.2 and 5.5.1.3).
+use Rattle.std.specs.Prelude.{ℕ, Bool, true, false, ◌==◌, ◌&&◌, ◌||◌, List, Option, Some, None}
+use Rattle.std.specs.Str.{bytes_eq}
+use Rattle.nas_base.specs.Branches.{per, when◌then◌else◌}
+use Rattle.nas_elements.specs.Capability.{has_ea, has_ia}
+use Rattle.nas_elements.specs.TaiList.{one_area}
+use Rattle.nas_elements.specs.declared.guti.Guti.{Guti}
+use Rattle.nas_elements.specs.declared.identity.Identity.{Identity}
+use Rattle.nas_elements.specs.declared.identity.Identity.TheVariants as identities
+use Rattle.nas_elements.specs.declared.slice.Slice.{Slice}
+use Rattle.mm_messages.specs.declared.message.Mm.{Mm}
+use Rattle.mm_messages.specs.declared.message.Mm.TheVariants.{IdentityRequest, RegistrationAccept}
+use Rattle.mm_messages.specs.declared.registration.RegistrationType.{RegistrationType}
+use Rattle.mm_messages.specs.declared.registration.RegistrationType.TheVariants.{Initial, Mobility, Periodic, Emergency}
+use Rattle.amf_core.specs.Challenges.{challenge}
+use Rattle.amf_core.specs.declared.config.Configured.{Configured}
+use Rattle.amf_core.specs.Naming.{keeper, named_by_suci}
+use Rattle.amf_core.specs.Requests.{is_same}
+use Rattle.amf_core.specs.Work.{answer, config_of, link_of, put_link, reject, say}
+use Rattle.amf_core.specs.declared.acts.Protection.TheVariants.{Ciphered}
+use Rattle.amf_core.specs.declared.procedures.Accepting.{Accepting}
+use Rattle.amf_core.specs.declared.procedures.Challenging.{Challenging}
+use Rattle.amf_core.specs.declared.procedures.Procedure.{Procedure}
+use Rattle.amf_core.specs.declared.procedures.Procedure.TheVariants as procedures
+use Rattle.amf_core.specs.declared.procedures.Purpose.{Purpose}
+use Rattle.amf_core.specs.declared.procedures.Purpose.TheVariants.{Registration, Command}
+use Rattle.amf_core.specs.declared.requests.Named.TheVariants as named
+use Rattle.amf_core.specs.declared.requests.Request.{Request}
+use Rattle.amf_core.specs.declared.subscriber.Subscriber.{Subscriber}
+use Rattle.amf_core.specs.declared.work.Work.{Work}
+
+-- A capability is enough where it has 128-NIA2, and 128-NEA2 or no ciphering.
+abbrev pub is_enough : List ℕ → Bool
+is_enough capability = has_ia 2 capability && (has_ea 2 capability || has_ea 0 capability)
+
+-- where the request tells none, the one that the subscriber told last counts
+abbrev pub counting_capability : Request → Subscriber → Option (List ℕ)
+counting_capability r s = per r.capability s.capability (λ (capability : List ℕ). Some capability)
+
+-- a link, if there is one, is this one
+abbrev pub is_on : ℕ → Option ℕ → Bool
+is_on number link = per link false (λ (other : ℕ). other == number)
+
+-- an equal request has a challenge on this link already, or an acceptance
+abbrev pub is_purpose : Request → Purpose → Bool
+is_purpose r (Registration other) = is_same r other
+is_purpose r Command = false
+
+abbrev pub is_running : ℕ → Request → Procedure → Bool
+is_running number r (procedures.Challenging c) = is_on number c.link && is_purpose r c.purpose
+is_running number r procedures.Idle = false
+is_running number r (procedures.Accepting a) = false
+is_running number r (procedures.Deregistering d) = false
+
+abbrev pub equal_acceptance : Request → Procedure → Option Accepting
+equal_acceptance r (procedures.Accepting a) = when is_same r a.request then Some a else None
+equal_acceptance r procedures.Idle = None
+equal_acceptance r (procedures.Challenging c) = None
+equal_acceptance r (procedures.Deregistering d) = None
+
+-- REGISTRATION ACCEPT: result 3GPP access (1), the tracking area, the subscribed slices and T3512; of an acceptance the new 5G-GUTI
+-- and the sessions that are told beside them
+abbrev pub accept : Configured → List Slice → Option Guti → Option (List Bool) → Mm
+accept config slices guti status =
+    RegistrationAccept 1 guti (Some (one_area config.plmn config.tac)) (Some slices) status (Some config.t3512)
+
+abbrev pub acceptance : Configured → Accepting → Subscriber → Mm
+acceptance config a s = accept config s.slices (Some a.guti) (Some a.status)
+
+abbrev pub accept_sent : Accepting → ℕ → Subscriber → Work → Work
+accept_sent a number s w = say number (Ciphered s.supi) (acceptance (config_of w) a s) w
+
+abbrev pub periodic_accepted : ℕ → Subscriber → Work → Work
+periodic_accepted number s w = say number (Ciphered s.supi) (accept (config_of w) s.slices None None) w
+
+-- A periodic request is granted at once where it passed under a context of the subscriber that it names, who is registered.
+abbrev pub is_periodic : RegistrationType → Bool
+is_periodic Periodic = true
+is_periodic Initial = false
+is_periodic Mobility = false
+is_periodic Emergency = false
+
+abbrev pub is_granted : Option (List ℕ) → Request → Subscriber → Bool
+is_granted passed r s =
+    is_periodic r.registration && (per passed false (λ (supi : List ℕ). bytes_eq supi s.supi) && s.registered)
+
+-- of a subscriber whose capability is enough, in the order of its cases
+unfoldable pub request_weighed : ℕ → Option (List ℕ) → Request → List ℕ → Subscriber → Work → Work
+request_weighed number passed r capability s w =
+    when is_running number r s.procedure then w
+    else per (equal_acceptance r s.procedure)
+    (when is_granted passed r s then periodic_accepted number s w
+    else challenge (Registration r) (Some number) (Some capability) s w)
+    (λ (a : Accepting). accept_sent a number s w)
+
+-- of a subscriber that is known (23, UE security capabilities mismatch)
+unfoldable pub requested : ℕ → Option (List ℕ) → Request → Subscriber → Work → Work
+requested number passed r s w =
+    per (counting_capability r s) (reject number 23 w) (λ (capability : List ℕ).
+    when is_enough capability then request_weighed number passed r capability s w else reject number 23 w)
+
+-- A request that waits for the identity of who sent it (clause 5.4.3): the SUCI is asked for, identity type 1.
+abbrev pub identity_wanted : ℕ → Request → Work → Work
+identity_wanted number r w = answer number (IdentityRequest 1) (put_link (record (link_of number w) { waiting = Some r }) w)
+
+-- by the identity: a SUCI of no subscriber is rejected (3, illegal UE), one that isn't read or a 5G-S-TMSI (9, UE identity cannot be
+-- derived); a 5G-GUTI that isn't kept is asked about
+abbrev pub request_by_suci : ℕ → Option (List ℕ) → Request → Option Subscriber → Work → Work
+request_by_suci number passed r s w = per s (reject number 3 w) (λ (x : Subscriber). requested number passed r x w)
+
+abbrev pub request_by_guti : ℕ → Option (List ℕ) → Request → Option Subscriber → Work → Work
+request_by_guti number passed r s w = per s (identity_wanted number r w) (λ (x : Subscriber). requested number passed r x w)
+
+abbrev pub request_by_identity : ℕ → Option (List ℕ) → RegistrationType → ℕ → Identity → Option (List ℕ) → Option (List Bool) → Work → Work
+request_by_identity number passed registration ksi (identities.Suci x) capability status w =
+    request_by_suci number passed
+    (record { registration = registration; ksi = ksi; identity = named.Suci x; capability = capability; status = status }) (named_by_suci x w) w
+request_by_identity number passed registration ksi (identities.Guti g) capability status w =
+    request_by_guti number passed
+    (record { registration = registration; ksi = ksi; identity = named.Guti g; capability = capability; status = status }) (keeper g w) w
+request_by_identity number passed registration ksi (identities.Stmsi t) capability status w = reject number 9 w
+request_by_identity number passed registration ksi (identities.Other octets) capability status w = reject number 9 w
+
+-- an emergency registration isn't granted (111, protocol error)
+abbrev pub is_emergency : RegistrationType → Bool
+is_emergency Emergency = true
+is_emergency Initial = false
+is_emergency Mobility = false
+is_emergency Periodic = false
+
+-- REGISTRATION REQUEST on a link; `passed` is the subscriber under whose context it passed, if it did
+unfoldable pub registration_requested : ℕ → Option (List ℕ) → RegistrationType → ℕ → Identity → Option (List ℕ) → Option (List Bool) → Work → Work
+registration_requested number passed registration ksi identity capability status w =
+    when is_emergency registration then reject number 111 w
+    else request_by_identity number passed registration ksi identity capability status w

@@ -1,0 +1,86 @@
+-- The answers to SECURITY MODE COMMAND (TS 24.501 clauses 5.4.2.4 and 5.4.2.5).
+use Rattle.std.specs.Prelude.{ℕ, Bool, true, false, List, Option, Some, None, Result, Ok, Err}
+use Rattle.std.specs.Str.{bytes_eq}
+use Rattle.nas_base.specs.Branches.{per, when◌then◌else◌}
+use Rattle.nas_elements.specs.declared.guti.Guti.{Guti}
+use Rattle.nas_elements.specs.declared.identity.Identity.{Identity}
+use Rattle.nas_elements.specs.declared.identity.Identity.TheVariants as identities
+use Rattle.nas_security.specs.Contexts.{SecurityContext}
+use Rattle.mm_messages.specs.Messages.{mm_in}
+use Rattle.mm_messages.specs.declared.message.Mm.{Mm}
+use Rattle.mm_messages.specs.declared.message.Mm.TheVariants.{RegistrationRequest}
+use Rattle.mm_messages.specs.declared.message.MmRefusal.{MmRefusal}
+use Rattle.mm_messages.specs.declared.registration.RegistrationType.{RegistrationType}
+use Rattle.amf_core.specs.Acceptance.{registration_goes_on}
+use Rattle.amf_core.specs.Challenges.{ended, idle, stopped}
+use Rattle.amf_core.specs.Naming.{suci_digits}
+use Rattle.amf_core.specs.Registration.{is_on}
+use Rattle.amf_core.specs.Work.{ask, put}
+use Rattle.amf_core.specs.declared.acceptance.Whole.{Whole}
+use Rattle.amf_core.specs.declared.outs.SmfAsk.TheVariants.{Switched}
+use Rattle.amf_core.specs.declared.procedures.Challenging.{Challenging}
+use Rattle.amf_core.specs.declared.procedures.Phase.{Phase}
+use Rattle.amf_core.specs.declared.procedures.Phase.TheVariants.{Auth, Mode}
+use Rattle.amf_core.specs.declared.procedures.Procedure.{Procedure}
+use Rattle.amf_core.specs.declared.procedures.Procedure.TheVariants as procedures
+use Rattle.amf_core.specs.declared.procedures.Purpose.{Purpose}
+use Rattle.amf_core.specs.declared.procedures.Purpose.TheVariants.{Registration, Command}
+use Rattle.amf_core.specs.declared.requests.Request.{Request}
+use Rattle.amf_core.specs.declared.security_mode.Commanding.{Commanding}
+use Rattle.amf_core.specs.declared.subscriber.Subscriber.{Subscriber}
+use Rattle.amf_core.specs.declared.work.Work.{Work}
+
+-- The challenge whose context waits for the answer to its SECURITY MODE COMMAND.
+abbrev pub commanding_in : Phase → Challenging → Option Commanding
+commanding_in (Auth a) c = None
+commanding_in (Mode context) c = Some (record { challenging = c; context = context })
+
+unfoldable pub commanding_of : Procedure → Option Commanding
+commanding_of (procedures.Challenging c) = commanding_in c.phase c
+commanding_of procedures.Idle = None
+commanding_of (procedures.Accepting a) = None
+commanding_of (procedures.Deregistering d) = None
+
+-- on its own link alone
+unfoldable pub commanding_on : ℕ → Procedure → Option Commanding
+commanding_on number procedure =
+    per (commanding_of procedure) None (λ (o : Commanding). when is_on number o.challenging.link then Some o else None)
+
+-- SECURITY MODE REJECT ends the challenge.
+unfoldable pub mode_rejected : ℕ → Subscriber → Work → Work
+mode_rejected number s w = per (commanding_on number s.procedure) w (λ (o : Commanding). ended s w)
+
+-- The whole request is taken where it is a REGISTRATION REQUEST that names this subscriber by its SUCI, or any 5G-GUTI. Its kind, its
+-- 5G-GUTI and its sessions are used; what the challenge began with tells the rest.
+abbrev pub whole_by : Identity → RegistrationType → Option (List Bool) → Subscriber → Option Whole
+whole_by (identities.Guti g) registration status s = Some (record { registration = registration; guti = Some g; status = status })
+whole_by (identities.Suci x) registration status s =
+    when bytes_eq s.supi (suci_digits x) then Some (record { registration = registration; guti = None; status = status }) else None
+whole_by (identities.Stmsi t) registration status s = None
+whole_by (identities.Other octets) registration status s = None
+
+abbrev pub whole_of : Result Mm MmRefusal → Subscriber → Option Whole
+whole_of (Ok (RegistrationRequest registration ksi identity capability status)) s = whole_by identity registration status s
+whole_of read s = None
+
+abbrev pub whole_in : Option (List ℕ) → Subscriber → Option Whole
+whole_in message s = per message None (λ (octets : List ℕ). whole_of (mm_in octets) s)
+
+abbrev pub goes_on : Purpose → Option Whole → ℕ → SecurityContext → Subscriber → Work → Work
+goes_on (Registration r) whole number context s w = per whole w (λ (q : Whole). registration_goes_on number r q context s w)
+goes_on Command whole number context s w = w
+
+-- SECURITY MODE COMPLETE under the context that was commanded: it is in use from now on, and the SMF is told so.
+abbrev pub in_use : SecurityContext → Subscriber → Subscriber
+in_use context s = record s { procedure = procedures.Idle; in_use = Some context }
+
+abbrev pub switched : Commanding → Subscriber → Work → Work
+switched o s w = ask Switched s (put (in_use o.context s) (stopped s w))
+
+abbrev pub completed : ℕ → Option (List ℕ) → Commanding → Subscriber → Work → Work
+completed number message o s w =
+    goes_on o.challenging.purpose (whole_in message s) number o.context (in_use o.context s) (switched o s w)
+
+unfoldable pub mode_completed : ℕ → Option (List ℕ) → Subscriber → Work → Work
+mode_completed number message s w =
+    per (commanding_of s.procedure) w (λ (o : Commanding). completed number message o s w)

@@ -1,0 +1,93 @@
+-- A step while it goes on: the moment and the random octets that it was given, what is kept, and what was said so far.
+use Rattle.std.specs.Prelude.{ℕ, Bool, true, false, ◌==◌, List, [], ◌∷◌, ◌++◌, Option, Some, None}
+use Rattle.nas_base.specs.Branches.{per, when◌then◌else◌}
+use Rattle.nas_timers.specs.Durations.{deadline_after, duration_of}
+use Rattle.nas_timers.specs.declared.timer_id.TimerId.{TimerId}
+use Rattle.milenage.specs.Home.{HomeRecord}
+use Rattle.mm_messages.specs.declared.message.Mm.{Mm}
+use Rattle.mm_messages.specs.declared.message.Mm.TheVariants.{FiveGmmStatus, RegistrationReject}
+use Rattle.amf_core.specs.Drafts.{by_now, home_by_now, with_home, with_link_record, with_record}
+use Rattle.amf_core.specs.State.{link_in, subscriber_in}
+use Rattle.amf_core.specs.declared.acts.Act.TheVariants.{Say, Tell}
+use Rattle.amf_core.specs.declared.acts.Protection.{Protection}
+use Rattle.amf_core.specs.declared.acts.Protection.TheVariants.{Plain, Ciphered}
+use Rattle.amf_core.specs.declared.config.Configured.{Configured}
+use Rattle.amf_core.specs.declared.link.Link.{Link}
+use Rattle.amf_core.specs.declared.outs.AmfOut.{AmfOut}
+use Rattle.amf_core.specs.declared.outs.AmfOut.TheVariants.{Smf, Start, Stop}
+use Rattle.amf_core.specs.declared.outs.SmfAsk.{SmfAsk}
+use Rattle.amf_core.specs.declared.subscriber.Subscriber.{Subscriber}
+use Rattle.amf_core.specs.declared.work.Work.{Work}
+
+-- the record of a subscriber, as it is by now, and another in its place
+abbrev pub subscriber : List ℕ → Work → Option Subscriber
+subscriber supi w = subscriber_in supi (by_now w.amf).subscribers
+
+unfoldable pub put : Subscriber → Work → Work
+put s w = record w { amf = with_record s w.amf }
+
+-- the record of a link, and another in its place
+abbrev pub link_of : ℕ → Work → Link
+link_of number w = link_in number (by_now w.amf).links
+
+unfoldable pub put_link : Link → Work → Work
+put_link l w = record w { amf = with_link_record l w.amf }
+
+-- the home network, as it is by now, and as it is from now on
+abbrev pub home_of : Work → List HomeRecord
+home_of w = home_by_now w.amf
+
+abbrev pub put_home : List HomeRecord → Work → Work
+put_home home w = record w { amf = with_home home w.amf }
+
+-- the subscriber that a link last passed or challenged
+abbrev pub subscriber_of_link : ℕ → Work → Option Subscriber
+subscriber_of_link number w = per (link_of number w).supi None (λ (supi : List ℕ). subscriber supi w)
+
+-- somebody is told something; a message is to be sent on a link, if there is one
+abbrev pub tell : AmfOut → Work → Work
+tell out w = record w { acts = w.acts ++ Tell out ∷ [] }
+
+abbrev pub say : ℕ → Protection → Mm → Work → Work
+say number protection message w = record w { acts = w.acts ++ Say number protection message ∷ [] }
+
+abbrev pub say_on : Option ℕ → Protection → Mm → Work → Work
+say_on link protection message w = per link w (λ (number : ℕ). say number protection message w)
+
+-- What is protected on a secure link and plain on any other: AUTHENTICATION REQUEST and REJECT, IDENTITY REQUEST, REGISTRATION REJECT,
+-- SERVICE REJECT and 5GMM STATUS (TS 24.501 clause 4.4.4.3). It is protected for the subscriber whose procedure it belongs to; what
+-- belongs to none is protected for the subscriber of its link.
+abbrev pub by_link : Link → List ℕ → Protection
+by_link l supi = when l.secure then Ciphered supi else Plain
+
+abbrev pub own_protection : Link → Protection
+own_protection l = per l.supi Plain (λ (supi : List ℕ). by_link l supi)
+
+-- an answer to an uplink that belongs to no procedure
+abbrev pub answer : ℕ → Mm → Work → Work
+answer number message w = say number (own_protection (link_of number w)) message w
+
+abbrev pub status : ℕ → ℕ → Work → Work
+status number cause w = answer number (FiveGmmStatus cause) w
+
+abbrev pub reject : ℕ → ℕ → Work → Work
+reject number cause w = answer number (RegistrationReject cause) w
+
+-- one that belongs to the procedure of a subscriber
+abbrev pub answer_for : Subscriber → ℕ → Mm → Work → Work
+answer_for s number message w = say number (by_link (link_of number w) s.supi) message w
+
+-- what was configured
+abbrev pub config_of : Work → Configured
+config_of w = w.amf.before.amf.config
+
+-- a timer of a subscriber is started for its duration, or stopped
+abbrev pub start : TimerId → Subscriber → Work → Work
+start id s w = tell (Start s.supi id (deadline_after w.moment (duration_of id (config_of w).durations))) w
+
+abbrev pub stop : TimerId → Subscriber → Work → Work
+stop id s w = tell (Stop s.supi id) w
+
+-- the SMF is asked something of a subscriber
+abbrev pub ask : SmfAsk → Subscriber → Work → Work
+ask call s w = tell (Smf (record { supi = s.supi; call = call })) w

@@ -1,0 +1,334 @@
+//! Challenges: how one starts, what is sent of it, and how a procedure ends.
+ghost use Rattle.std.specs.Prelude.{◌≡◌, ◌^◌, ◌<◌, OnOk};
+ghost use Rattle.amf_core.specs.Challenges.{VectorFits, asked_for, authentication, begun_with, by_vector, capability_of, challenge, challenge_begun, challenge_open, challenge_put, challenge_refused, challenge_sent, chosen_nea, claimed, claimed_one, ended, idle, is_ksi_taken, kamf_of, new_ksi, request_sent, stopped, told};
+
+use crate::acts::Protection;
+use crate::work::Work;
+use crate::{Authentication, Challenging, Configured, Phase, Procedure, Purpose, Subscriber};
+use key_chain::{kamf, kausf, kseaf, res_star};
+use milenage::{HomeRefusal, Vector};
+use mm_messages::Mm;
+use nas_base::mm_cause::PROTOCOL_ERROR_UNSPECIFIED;
+use nas_base::{Ksi, Memory, Supi};
+use nas_elements::{Asi, Capability};
+use nas_layout::Abba;
+use nas_security::Challenge;
+use nas_timers::TimerId;
+use std::alloc::Global;
+
+// The ABBA of this release (TS 33.501 Annex A.7.1).
+const ABBA: [u8; 2] = [0, 0];
+
+// Additional 5G security information: the whole initial message is requested (TS 24.501 clause 9.11.3.12).
+const WHOLE_MESSAGE: Asi = Asi(2);
+
+// Whether a new context can't have this number.
+#[tactic(auto, unfolding(nas_base::specs::Branches::per))]
+fn is_ksi_taken(ksi: u8, s: &Subscriber) -> bool
+    ensures { result ≡ is_ksi_taken ksi s.now }
+{
+    let in_use = match &s.in_use {
+        Some(context) => context.ksi.0 == ksi,
+        None => false,
+    };
+    let last = match s.last_ksi {
+        Some(last) => last.0 == ksi,
+        None => false,
+    };
+    in_use || last
+}
+
+// The least number that a new context can have. Two are taken at most.
+#[tactic(auto, unfolding(crate::specs::Challenges::new_ksi))]
+fn new_ksi(s: &Subscriber) -> Ksi
+    ensures { result ≡ new_ksi s.now }
+{
+    if !is_ksi_taken(0, s) {
+        Ksi(0)
+    } else if !is_ksi_taken(1, s) {
+        Ksi(1)
+    } else {
+        Ksi(2)
+    }
+}
+
+// The capability that a subscriber told last, or none at all.
+#[tactic(auto, unfolding(nas_base::specs::Branches::per))]
+fn capability_of(s: &Subscriber) -> Capability
+    ensures { result ≡ capability_of s.now }
+{
+    match &s.capability {
+        Some(capability) => capability.copy(),
+        None => Capability::from_slice(&[0, 0]).unwrap(),
+    }
+}
+
+// The ciphering for a capability.
+fn chosen_nea(config: &Configured, capability: &Capability) -> u8
+    ensures { result ≡ chosen_nea config.now capability.now }
+{
+    if !capability.has_ea(0) || capability.has_ea(2) && config.nea == 2 {
+        2
+    } else {
+        0
+    }
+}
+
+// KAMF of a vector.
+fn kamf_of(config: &Configured, supi: &Supi, v: &Vector) -> [u8; 32]
+    ensures { result ≡ kamf_of config.now supi.now v.now }
+{
+    let [a, b, c, d, e, f, ..] = v.autn;
+    let kausf = kausf(&v.ck, &v.ik, &config.plmn, &[a, b, c, d, e, f]);
+    kamf(&kseaf(&kausf, &config.plmn), supi, &ABBA)
+}
+
+// What the answer to a vector is compared with, and what comes of it.
+fn authentication(config: &Configured, v: &Vector, s: &Subscriber) -> Authentication
+    requires { v.now.sqn < 2 ^ 48 }
+    ensures { result ≡ authentication config.now v.now s.now }
+{
+    Authentication {
+        challenge: Challenge {
+            sqn: v.sqn,
+            rand: v.rand,
+        },
+        ksi: new_ksi(s),
+        autn: v.autn,
+        res_star: res_star(&v.ck, &v.ik, &config.plmn, &v.rand, &v.res),
+        kamf: kamf_of(config, &s.supi, v),
+        nea: chosen_nea(config, &capability_of(s)),
+    }
+}
+
+// What the command of a challenge asks for.
+fn asked_for(purpose: &Purpose) -> Option<Asi>
+    ensures { result ≡ asked_for purpose.now }
+{
+    match purpose {
+        Purpose::Registration(_) => Some(WHOLE_MESSAGE),
+        Purpose::Command => None,
+    }
+}
+
+/// A subscriber with a challenge.
+pub fn challenge_open(challenging: &Challenging, s: Subscriber) -> Subscriber
+    ensures { result ≡ challenge_open challenging.now s }
+{
+    Subscriber {
+        procedure: Procedure::Challenging(challenging.copy()),
+        ..s
+    }
+}
+
+/// A subscriber without a procedure.
+pub fn idle(s: Subscriber) -> Subscriber
+    ensures { result ≡ idle s }
+{
+    Subscriber {
+        procedure: Procedure::Idle,
+        ..s
+    }
+}
+
+// A subscriber with the capability that it tells, if it does.
+#[tactic(auto, unfolding(nas_base::specs::Branches::per))]
+fn told(capability: Option<Capability>, s: Subscriber) -> Subscriber
+    ensures { result ≡ told capability s }
+{
+    match capability {
+        Some(capability) => Subscriber {
+            capability: Some(capability),
+            ..s
+        },
+        None => s,
+    }
+}
+
+impl<'a> Work<'a> {
+    /// The timer of what is open is stopped.
+    #[tactic(auto, unfolding(crate::specs::Challenges::stopped))]
+    pub fn stop_open(&mut self, s: &Subscriber) -> Result<(), Memory>
+        ensures { OnOk result (self.new ≡ stopped s.now self.old) }
+    {
+        match &s.procedure {
+            Procedure::Idle => Ok(()),
+            Procedure::Challenging(_) => self.stop(TimerId::T3560, s),
+            Procedure::Accepting(_) => self.stop(TimerId::T3550, s),
+            Procedure::Deregistering(_) => self.stop(TimerId::T3522, s),
+        }
+    }
+
+    /// What is open ends.
+    #[tactic(auto, unfolding(crate::specs::Challenges::ended))]
+    pub fn end_open(&mut self, s: Subscriber) -> Result<(), Memory>
+        ensures { OnOk result (self.new ≡ ended s self.old) }
+    {
+        self.stop_open(&s)?;
+        self.put(idle(s))
+    }
+
+    // AUTHENTICATION REQUEST.
+    fn send_request(
+        &mut self,
+        auth: &Authentication,
+        number: u16,
+        s: &Subscriber,
+    ) -> Result<(), Memory>
+        ensures { OnOk result (self.new ≡ request_sent auth.now number s.now self.old) }
+    {
+        let message = Mm::AuthenticationRequest {
+            ksi: auth.ksi,
+            abba: Abba::from_slice(&ABBA).unwrap(),
+            rand: Some(auth.challenge.rand),
+            autn: Some(auth.autn),
+        };
+        self.answer_for(s, number, message)
+    }
+
+    // What a challenge waits for the answer to.
+    #[tactic(auto, unfolding(crate::specs::Challenges::challenge_sent, nas_base::specs::Branches::per))]
+    fn send_challenge(&mut self, challenging: &Challenging, s: &Subscriber) -> Result<(), Memory>
+        ensures { OnOk result (self.new ≡ challenge_sent challenging.now s.now self.old) }
+    {
+        match &challenging.phase {
+            Phase::Auth(auth) => match challenging.link {
+                Some(number) => self.send_request(auth, number, s),
+                None => Ok(()),
+            },
+            Phase::Mode(context) => {
+                let message = Mm::SecurityModeCommand {
+                    algs: context.algs,
+                    ksi: context.ksi,
+                    capability: capability_of(s),
+                    asi: asked_for(&challenging.purpose),
+                };
+                let protection = Protection::IntegrityProtectedWithNewContext(s.supi.copy());
+                self.say_on(challenging.link, protection, message)
+            }
+        }
+    }
+
+    /// A challenge stands as the subscriber's procedure, what it waits for is sent, and its timer runs.
+    pub fn put_challenge(&mut self, challenging: &Challenging, s: Subscriber) -> Result<(), Memory>
+        ensures { OnOk result (self.new ≡ challenge_put challenging.now s self.old) }
+    {
+        self.put(s.copy())?;
+        self.send_challenge(challenging, &s)?;
+        self.start(TimerId::T3560, &s)
+    }
+
+    // The subscriber is that of the link which it was last challenged on.
+    #[tactic(auto, unfolding(nas_base::specs::Branches::per))]
+    fn claim(&mut self, link: Option<u16>, supi: &Supi) -> Result<(), Memory>
+        ensures { OnOk result (self.new ≡ claimed link supi.now self.old) }
+    {
+        match link {
+            Some(number) => self.claim_one(number, supi),
+            None => Ok(()),
+        }
+    }
+
+    // The same of a link that there is.
+    fn claim_one(&mut self, number: u16, supi: &Supi) -> Result<(), Memory>
+        ensures { OnOk result (self.new ≡ claimed_one number supi.now self.old) }
+    {
+        let mut link = self.amf.link(number);
+        link.supi = Some(supi.copy());
+        self.put_link(link)
+    }
+
+    // A challenge that there is a vector for.
+    #[tactic(auto, unfolding(crate::specs::Challenges::challenge_begun))]
+    fn begin_challenge(
+        &mut self,
+        purpose: Purpose,
+        link: Option<u16>,
+        v: &Vector,
+        s: Subscriber,
+    ) -> Result<(), Memory>
+        requires { v.now.sqn < 2 ^ 48 }
+        ensures { OnOk result (self.new ≡ challenge_begun purpose link v.now s self.old) }
+    {
+        let auth = authentication(self.amf.config(), v, &s);
+        self.begin_with(auth, purpose, link, s)
+    }
+
+    // The same, with what the answer is compared with.
+    fn begin_with(
+        &mut self,
+        auth: Authentication,
+        purpose: Purpose,
+        link: Option<u16>,
+        s: Subscriber,
+    ) -> Result<(), Memory>
+        ensures { OnOk result (self.new ≡ begun_with auth purpose link s self.old) }
+    {
+        self.claim(link, &s.supi)?;
+        let challenging = Challenging {
+            purpose,
+            link,
+            phase: Phase::Auth(auth),
+            sendings: 1,
+        };
+        let s = Subscriber {
+            last_ksi: Some(auth.ksi),
+            ..s
+        };
+        let s = challenge_open(&challenging, s);
+        self.put_challenge(&challenging, s)
+    }
+
+    // A challenge that there is no vector for.
+    #[tactic(auto, unfolding(nas_base::specs::Branches::per))]
+    fn refuse_challenge(&mut self, purpose: &Purpose, link: Option<u16>) -> Result<(), Memory>
+        ensures { OnOk result (self.new ≡ challenge_refused purpose.now link self.old) }
+    {
+        match purpose {
+            Purpose::Registration(_) => match link {
+                Some(number) => self.reject(number, PROTOCOL_ERROR_UNSPECIFIED),
+                None => Ok(()),
+            },
+            Purpose::Command => Ok(()),
+        }
+    }
+
+    /// What comes of the home network's answer.
+    pub fn by_vector(
+        &mut self,
+        answer: Result<Vector, HomeRefusal>,
+        purpose: Purpose,
+        link: Option<u16>,
+        capability: Option<Capability>,
+        s: Subscriber,
+    ) -> Result<(), Memory>
+        requires { VectorFits answer }
+        ensures { OnOk result (self.new ≡ by_vector answer purpose link capability s self.old) }
+    {
+        match answer {
+            Ok(v) => self.begin_challenge(purpose, link, &v, told(capability, idle(s))),
+            Err(_) => {
+                self.put(idle(s))?;
+                self.refuse_challenge(&purpose, link)
+            }
+        }
+    }
+
+    /// A challenge starts; what is open ends.
+    #[tactic(auto, unfolding(crate::specs::Challenges::challenge))]
+    pub fn challenge(
+        &mut self,
+        alloc: Global,
+        purpose: Purpose,
+        link: Option<u16>,
+        capability: Option<Capability>,
+        s: Subscriber,
+    ) -> Result<(), Memory>
+        ensures { OnOk result (self.new ≡ challenge purpose link capability s self.old) }
+    {
+        self.stop_open(&s)?;
+        let rand = self.rand;
+        let answer = self.amf.challenge(alloc, &s.supi, &rand)?;
+        self.by_vector(answer, purpose, link, capability, s)
+    }
+}

@@ -1,0 +1,81 @@
+//! The commands that an AMF is given.
+ghost use Rattle.std.specs.Prelude.{◌≡◌, OnOk};
+ghost use Rattle.amf_core.specs.Commands.{authenticate, authenticated, deregister, left, may_begin};
+ghost use Rattle.amf_core.specs.Outcome.{Works, unrefused};
+
+use crate::work::Work;
+use crate::{AmfRefusal, Purpose, Subscriber};
+use milenage::HomeRefusal;
+use nas_base::{AmfWord, Memory, Supi};
+use std::alloc::Global;
+
+// Whether a command begins: its subscriber is registered, and no procedure is open.
+fn may_begin(s: &Subscriber) -> bool
+    ensures { result ≡ may_begin s.now }
+{
+    s.word() == AmfWord::Registered && s.procedure.is_idle()
+}
+
+/// What working came to, where memory alone can be wanting.
+pub fn unrefused(done: Result<(), Memory>) -> Result<(), AmfRefusal>
+    ensures { result ≡ unrefused done }
+{
+    match done {
+        Ok(()) => Ok(()),
+        Err(Memory) => Err(AmfRefusal::Memory),
+    }
+}
+
+impl<'a> Work<'a> {
+    /// The command to authenticate a subscriber.
+    #[tactic(auto, unfolding(crate::specs::Commands::authenticate, nas_base::specs::Branches::per))]
+    pub fn authenticate(&mut self, alloc: Global, supi: &Supi) -> Result<(), AmfRefusal>
+        ensures { Works self.new result (authenticate supi.now self.old) }
+    {
+        match self.amf.subscriber(supi.as_slice()) {
+            Some(s) => self.authenticate_one(alloc, s),
+            None => Err(AmfRefusal::UnknownSupi),
+        }
+    }
+
+    // The same of a subscriber that is kept.
+    #[tactic(auto, unfolding(nas_base::specs::Branches::chosen))]
+    fn authenticate_one(&mut self, alloc: Global, s: Subscriber) -> Result<(), AmfRefusal>
+        ensures { Works self.new result (authenticated s self.old) }
+    {
+        if !may_begin(&s) {
+            return Err(AmfRefusal::WrongState { state: s.word() });
+        }
+        let rand = self.rand;
+        let answer = match self.amf.challenge(alloc, &s.supi, &rand) {
+            Ok(answer) => answer,
+            Err(Memory) => return Err(AmfRefusal::Memory),
+        };
+        if let Err(HomeRefusal::SqnSpent { sqn }) = answer {
+            return Err(AmfRefusal::SqnSpent { sqn });
+        }
+        unrefused(self.by_vector(answer, Purpose::Command, s.link, None, s))
+    }
+
+    /// The command to de-register a subscriber.
+    #[tactic(auto, unfolding(crate::specs::Commands::deregister, nas_base::specs::Branches::per))]
+    pub fn deregister_by(&mut self, supi: &Supi) -> Result<(), AmfRefusal>
+        ensures { Works self.new result (deregister supi.now self.old) }
+    {
+        match self.amf.subscriber(supi.as_slice()) {
+            Some(s) => self.deregister_one(&s),
+            None => Err(AmfRefusal::UnknownSupi),
+        }
+    }
+
+    // The same of a subscriber that is kept.
+    #[tactic(auto, unfolding(nas_base::specs::Branches::chosen))]
+    fn deregister_one(&mut self, s: &Subscriber) -> Result<(), AmfRefusal>
+        ensures { Works self.new result (left s.now self.old) }
+    {
+        if !may_begin(s) {
+            return Err(AmfRefusal::WrongState { state: s.word() });
+        }
+        unrefused(self.put_deregistration(1, s))
+    }
+}

@@ -1,0 +1,497 @@
+//! What an AMF makes of octets that come up a link.
+ghost use Rattle.std.specs.Prelude.{◌≡◌, [], drop, slice_index_or, IfOk, Ok, OnOk, option_map};
+ghost use Rattle.mm_messages.specs.Messages.{mm_in};
+ghost use Rattle.amf_core.specs.Delivery.{action, brought_up, by_table, check_of, ciphered, ciphered_for, failed, failed_request, freshened, integrity_protected, is_permitted_type, message_of, named_inside, passed, plain, received, sender, taken, taken_plain, under_either, under_new_context};
+
+use crate::Subscriber;
+use crate::checks::{Check, checked_in_use, checked_pending};
+use crate::work::Work;
+use collision_rules::{Action, collide_amf, permitted_amf};
+use mm_messages::{Mm, MmRefusal, decode_mm, kind_of};
+use nas_base::mm_cause::{
+    INVALID_MANDATORY_INFORMATION, MESSAGE_TYPE_NON_EXISTENT_OR_NOT_IMPLEMENTED,
+    MESSAGE_TYPE_NOT_COMPATIBLE_WITH_THE_PROTOCOL_STATE,
+};
+use nas_base::{Memory, MmKind, Writer};
+use std::alloc::Global;
+
+// 5GMM's extended protocol discriminator (TS 24.501 clause 9.2).
+const EPD_5GMM: u8 = 0x7e;
+
+// Octets of a message at most, of a frame as of a plain one.
+const LONGEST: usize = 4096;
+
+// The message type of 5GMM STATUS, which is never answered (TS 24.501 clause 7.5.1).
+const FIVE_GMM_STATUS: u8 = 0x64;
+
+// Whether a plain message of this type is answered where a part of it is wrong.
+#[tactic(auto, unfolding(nas_base::specs::Branches::per))]
+fn is_permitted_type(code: u8) -> bool
+    ensures { result ≡ is_permitted_type code }
+{
+    match MmKind::from_code(code) {
+        Some(kind) => permitted_amf(kind),
+        None => false,
+    }
+}
+
+// An octet, 0 where there is none.
+fn octet_at(octets: &[u8], index: usize) -> u8
+    ensures { result ≡ slice_index_or octets.now index 0 }
+{
+    match octets.get(index) {
+        Some(octet) => *octet,
+        None => 0,
+    }
+}
+
+// What stands behind the head of a frame.
+fn inside(octets: &[u8]) -> &[u8]
+    ensures { result.now ≡ drop 7 octets.now }
+{
+    match octets.get(7..) {
+        Some(inside) => inside,
+        None => &[],
+    }
+}
+
+// The message in octets, if they are one.
+fn message_in(alloc: Global, octets: &[u8]) -> Result<Option<Mm>, Memory>
+    ensures { IfOk result (λ message. message ≡ message_of (mm_in octets.now)) }
+{
+    match decode_mm(alloc, octets) {
+        Ok(message) => Ok(Some(message)),
+        Err(MmRefusal::Memory) => Err(Memory),
+        Err(MmRefusal::Ignored { at: _ })
+        | Err(MmRefusal::UnknownType { n: _ })
+        | Err(MmRefusal::Mandatory { part: _, at: _ }) => Ok(None),
+    }
+}
+
+// Octets under the context in use of a subscriber, if there is one.
+#[tactic(auto, unfolding(nas_base::specs::Branches::per))]
+fn check_of(s: Option<Subscriber>, number: u16, octets: &[u8], out: &mut Writer) -> Option<Check>
+    requires { out.old ≡ [] }
+    ensures { option_map (λ check. record { check = check; message = out.new }) result ≡ check_of s number octets.now }
+{
+    match s {
+        Some(s) => checked_in_use(number, octets, s, out),
+        None => None,
+    }
+}
+
+impl<'a> Work<'a> {
+    /// Octets came up a link; `fresh` where they are the first of a connection.
+    pub fn bring_up(
+        &mut self,
+        alloc: Global,
+        number: u16,
+        fresh: bool,
+        octets: &[u8],
+    ) -> Result<(), Memory>
+        ensures { OnOk result (self.new ≡ brought_up number fresh octets.now self.old) }
+    {
+        self.freshen(fresh, number)?;
+        self.received(alloc, number, octets)
+    }
+
+    // Octets on their link.
+    #[tactic(auto, unfolding(crate::specs::Delivery::received, nas_base::specs::Branches::chosen))]
+    fn received(&mut self, alloc: Global, number: u16, octets: &[u8]) -> Result<(), Memory>
+        ensures { OnOk result (self.new ≡ received number octets.now self.old) }
+    {
+        if octet_at(octets, 0) != EPD_5GMM || octets.len() > LONGEST {
+            return Ok(());
+        }
+        match octet_at(octets, 1) % 16 {
+            0 => self.plain(alloc, number, octets),
+            1 => self.integrity_protected(alloc, number, octets),
+            2 => self.ciphered(alloc, number, octets),
+            4 => self.under_new_context(alloc, number, octets),
+            _ => Ok(()),
+        }
+    }
+
+    // The first message of a connection finds its link not secure.
+    #[tactic(auto, unfolding(crate::specs::Delivery::freshened, nas_base::specs::Branches::chosen))]
+    fn freshen(&mut self, fresh: bool, number: u16) -> Result<(), Memory>
+        ensures { OnOk result (self.new ≡ freshened fresh number self.old) }
+    {
+        if !fresh {
+            return Ok(());
+        }
+        let mut link = self.amf.link(number);
+        link.secure = false;
+        self.put_link(link)
+    }
+
+    // A plain message.
+    #[tactic(auto, unfolding(crate::specs::Delivery::plain, nas_base::specs::Branches::chosen))]
+    fn plain(&mut self, alloc: Global, number: u16, octets: &[u8]) -> Result<(), Memory>
+        ensures { OnOk result (self.new ≡ plain number octets.now self.old) }
+    {
+        if self.amf.link(number).secure {
+            return Ok(());
+        }
+        match decode_mm(alloc, octets) {
+            Ok(message) => {
+                if permitted_amf(kind_of(&message)) {
+                    return self.taken_plain(alloc, number, message);
+                }
+                Ok(())
+            }
+            Err(MmRefusal::Ignored { at: _ }) => Ok(()),
+            Err(MmRefusal::UnknownType { n: _ }) => self.status(
+                number,
+                MESSAGE_TYPE_NON_EXISTENT_OR_NOT_IMPLEMENTED,
+            ),
+            Err(MmRefusal::Mandatory { part: _, at: _ }) => {
+                if is_permitted_type(octet_at(octets, 2)) {
+                    return self.status(number, INVALID_MANDATORY_INFORMATION);
+                }
+                Ok(())
+            }
+            Err(MmRefusal::Memory) => Err(Memory),
+        }
+    }
+
+    // The subscriber that a frame of header type 1 is checked for.
+    #[tactic(auto, unfolding(nas_base::specs::Branches::per))]
+    fn sender(&self, number: u16, message: &Option<Mm>) -> Option<Subscriber>
+        ensures { result ≡ sender number message.now self.now }
+    {
+        match self.named_inside(message) {
+            Some(s) => Some(s),
+            None => self.subscriber_of_link(number),
+        }
+    }
+
+    // The subscriber that a request inside names.
+    #[tactic(auto, unfolding(nas_base::specs::Branches::per))]
+    fn named_inside(&self, message: &Option<Mm>) -> Option<Subscriber>
+        ensures { result ≡ named_inside message.now self.now }
+    {
+        match message {
+            Some(
+                Mm::RegistrationRequest {
+                    registration: _,
+                    ksi: _,
+                    identity,
+                    capability: _,
+                    status: _,
+                },
+            ) => self.kept_for(identity),
+            Some(
+                Mm::ServiceRequest {
+                    ksi: _,
+                    service_type: _,
+                    identity,
+                    status: _,
+                },
+            ) => self.kept_for(identity),
+            Some(
+                Mm::DeregistrationRequestUeOriginating {
+                    switch_off: _,
+                    ksi: _,
+                    identity,
+                },
+            ) => self.kept_for(identity),
+            _ => None,
+        }
+    }
+
+    // A frame of header type 1.
+    #[tactic(auto, unfolding(crate::specs::Delivery::integrity_protected, nas_base::specs::Branches::per))]
+    fn integrity_protected(
+        &mut self,
+        alloc: Global,
+        number: u16,
+        octets: &[u8],
+    ) -> Result<(), Memory>
+        ensures { OnOk result (self.new ≡ integrity_protected number octets.now self.old) }
+    {
+        let message = message_in(alloc, inside(octets))?;
+        let s = self.sender(number, &message);
+        let mut out = Writer::new();
+        match check_of(s, number, octets, &mut out) {
+            Some(check) => self.passed(alloc, number, out.octets(), check),
+            None => self.failed(alloc, number, message),
+        }
+    }
+
+    // A frame of header type 1 that failed.
+    #[tactic(auto, unfolding(nas_base::specs::Branches::chosen, nas_base::specs::Branches::per))]
+    fn failed(&mut self, alloc: Global, number: u16, message: Option<Mm>) -> Result<(), Memory>
+        ensures { OnOk result (self.new ≡ failed number message self.old) }
+    {
+        if self.amf.link(number).secure {
+            return Ok(());
+        }
+        match message {
+            Some(message) => self.failed_request(alloc, number, message),
+            None => Ok(()),
+        }
+    }
+
+    // The request inside it.
+    fn failed_request(&mut self, alloc: Global, number: u16, message: Mm) -> Result<(), Memory>
+        ensures { OnOk result (self.new ≡ failed_request number message self.old) }
+    {
+        match message {
+            Mm::RegistrationRequest {
+                registration,
+                ksi,
+                identity,
+                capability,
+                status,
+            } => self.registration_requested(
+                alloc,
+                number,
+                &None,
+                registration,
+                ksi,
+                identity,
+                capability,
+                status,
+            ),
+            Mm::ServiceRequest {
+                ksi: _,
+                service_type: _,
+                identity: _,
+                status: _,
+            } => { self.service_refused(number) }
+            _ => Ok(()),
+        }
+    }
+
+    // A frame of header type 2.
+    #[tactic(auto, unfolding(crate::specs::Delivery::ciphered, nas_base::specs::Branches::per))]
+    fn ciphered(&mut self, alloc: Global, number: u16, octets: &[u8]) -> Result<(), Memory>
+        ensures { OnOk result (self.new ≡ ciphered number octets.now self.old) }
+    {
+        let s = self.subscriber_of_link(number);
+        let mut out = Writer::new();
+        match check_of(s, number, octets, &mut out) {
+            Some(check) => self.passed(alloc, number, out.octets(), check),
+            None => Ok(()),
+        }
+    }
+
+    // A frame of header type 4.
+    #[tactic(auto, unfolding(crate::specs::Delivery::under_new_context, nas_base::specs::Branches::per))]
+    fn under_new_context(&mut self, alloc: Global, number: u16, octets: &[u8]) -> Result<(), Memory>
+        ensures { OnOk result (self.new ≡ under_new_context number octets.now self.old) }
+    {
+        match self.subscriber_of_link(number) {
+            Some(s) => self.under_either(alloc, number, octets, s),
+            None => Ok(()),
+        }
+    }
+
+    // The same for a subscriber: under the context that was commanded on this link, then under the one in use.
+    #[tactic(auto, unfolding(nas_base::specs::Branches::per))]
+    fn under_either(
+        &mut self,
+        alloc: Global,
+        number: u16,
+        octets: &[u8],
+        s: Subscriber,
+    ) -> Result<(), Memory>
+        ensures { OnOk result (self.new ≡ under_either number octets.now s self.old) }
+    {
+        let mut out = Writer::new();
+        match checked_pending(number, octets, &s, &mut out) {
+            Some(check) => self.passed(alloc, number, out.octets(), check),
+            None => self.ciphered_for(alloc, number, octets, s),
+        }
+    }
+
+    // The same under the context in use.
+    #[tactic(auto, unfolding(nas_base::specs::Branches::per))]
+    fn ciphered_for(
+        &mut self,
+        alloc: Global,
+        number: u16,
+        octets: &[u8],
+        s: Subscriber,
+    ) -> Result<(), Memory>
+        ensures { OnOk result (self.new ≡ ciphered_for number octets.now s self.old) }
+    {
+        let mut out = Writer::new();
+        match checked_in_use(number, octets, s, &mut out) {
+            Some(check) => self.passed(alloc, number, out.octets(), check),
+            None => Ok(()),
+        }
+    }
+
+    // A message that passed.
+    #[tactic(auto, unfolding(crate::specs::Delivery::passed, nas_base::specs::Branches::chosen))]
+    fn passed(
+        &mut self,
+        alloc: Global,
+        number: u16,
+        octets: &[u8],
+        check: Check,
+    ) -> Result<(), Memory>
+        ensures { OnOk result (self.new ≡ passed number octets.now check self.old) }
+    {
+        self.note(number, &check)?;
+        match decode_mm(alloc, octets) {
+            Ok(message) => self.by_table(alloc, number, check, message),
+            Err(MmRefusal::Ignored { at: _ }) => Ok(()),
+            Err(MmRefusal::UnknownType { n: _ }) => self.status(
+                number,
+                MESSAGE_TYPE_NON_EXISTENT_OR_NOT_IMPLEMENTED,
+            ),
+            Err(MmRefusal::Mandatory { part: _, at: _ }) => {
+                if octet_at(octets, 2) == FIVE_GMM_STATUS {
+                    return Ok(());
+                }
+                self.status(number, INVALID_MANDATORY_INFORMATION)
+            }
+            Err(MmRefusal::Memory) => Err(Memory),
+        }
+    }
+
+    // A message that passed, by the table of collisions.
+    fn by_table(
+        &mut self,
+        alloc: Global,
+        number: u16,
+        check: Check,
+        message: Mm,
+    ) -> Result<(), Memory>
+        ensures { OnOk result (self.new ≡ by_table (action message check.subscriber) number check message self.old) }
+    {
+        let s = &check.subscriber;
+        match collide_amf(s.word(), s.registered, kind_of(&message)) {
+            Action::Take => self.taken(alloc, number, check, message),
+            Action::Status98 => self.status(
+                number,
+                MESSAGE_TYPE_NOT_COMPATIBLE_WITH_THE_PROTOCOL_STATE,
+            ),
+            Action::Discard | Action::Status43 | Action::Status47 => Ok(()),
+        }
+    }
+
+    // The row of a message that passed.
+    #[tactic(auto, unfolding(crate::specs::Delivery::taken, nas_base::specs::Branches::chosen))]
+    fn taken(&mut self, alloc: Global, number: u16, check: Check, message: Mm) -> Result<(), Memory>
+        ensures { OnOk result (self.new ≡ taken number check message self.old) }
+    {
+        let s = check.subscriber;
+        match message {
+            Mm::RegistrationRequest {
+                registration,
+                ksi,
+                identity,
+                capability,
+                status,
+            } => {
+                let passed = Some(s.supi);
+                self.registration_requested(
+                    alloc,
+                    number,
+                    &passed,
+                    registration,
+                    ksi,
+                    identity,
+                    capability,
+                    status,
+                )
+            }
+            Mm::RegistrationComplete => self.registration_completed(&check.challenge, s),
+            Mm::DeregistrationRequestUeOriginating {
+                switch_off,
+                ksi: _,
+                identity: _,
+            } => { self.deregistration_requested(number, switch_off, &s) }
+            Mm::DeregistrationAcceptUeTerminated => self.deregistration_accepted(number, &s),
+            Mm::ServiceRequest {
+                ksi: _,
+                service_type: _,
+                identity: _,
+                status: _,
+            } => { self.service_requested(number, &s) }
+            Mm::AuthenticationResponse { res_star } => self.responded(number, &res_star, s),
+            Mm::AuthenticationFailure { cause, auts } => self.authentication_failed(
+                alloc, number, cause, &auts, s,
+            ),
+            Mm::IdentityResponse { identity } => self.identity_told(alloc, number, &identity),
+            Mm::SecurityModeComplete { message } => {
+                if check.is_pending {
+                    return self.mode_completed(alloc, number, &message, s);
+                }
+                Ok(())
+            }
+            Mm::SecurityModeReject { cause: _ } => self.mode_rejected(number, s),
+            Mm::UlNasTransport {
+                container_type,
+                container,
+                psi,
+                request_type: _,
+                slice,
+                dnn,
+            } => self.transported(
+                number,
+                check.challenge,
+                container_type,
+                container,
+                psi,
+                slice,
+                dnn,
+                &s,
+            ),
+            _ => Ok(()),
+        }
+    }
+
+    // The row of a plain message before secure exchange.
+    #[tactic(auto, unfolding(crate::specs::Delivery::taken_plain, nas_base::specs::Branches::per))]
+    fn taken_plain(&mut self, alloc: Global, number: u16, message: Mm) -> Result<(), Memory>
+        ensures { OnOk result (self.new ≡ taken_plain number message self.old) }
+    {
+        match message {
+            Mm::RegistrationRequest {
+                registration,
+                ksi,
+                identity,
+                capability,
+                status,
+            } => self.registration_requested(
+                alloc,
+                number,
+                &None,
+                registration,
+                ksi,
+                identity,
+                capability,
+                status,
+            ),
+            Mm::ServiceRequest {
+                ksi: _,
+                service_type: _,
+                identity: _,
+                status: _,
+            } => { self.service_refused(number) }
+            Mm::IdentityResponse { identity } => self.identity_told(alloc, number, &identity),
+            Mm::AuthenticationResponse { res_star } => match self.subscriber_of_link(number) {
+                Some(s) => self.responded(number, &res_star, s),
+                None => Ok(()),
+            },
+            Mm::AuthenticationFailure { cause, auts } => match self.subscriber_of_link(number) {
+                Some(s) => self.authentication_failed(alloc, number, cause, &auts, s),
+                None => Ok(()),
+            },
+            Mm::SecurityModeReject { cause: _ } => match self.subscriber_of_link(number) {
+                Some(s) => self.mode_rejected(number, s),
+                None => Ok(()),
+            },
+            Mm::DeregistrationAcceptUeTerminated => match self.subscriber_of_link(number) {
+                Some(s) => self.deregistration_accepted(number, &s),
+                None => Ok(()),
+            },
+            _ => Ok(()),
+        }
+    }
+}

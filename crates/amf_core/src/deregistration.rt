@@ -1,0 +1,103 @@
+//! De-registration, by the handset and by the network.
+ghost use Rattle.std.specs.Prelude.{◌≡◌, OnOk};
+ghost use Rattle.amf_core.specs.Deregistration.{deregistered, deregistration_accepted, deregistration_put, deregistration_requested, deregistration_sent, is_deregistering, unregistered};
+
+use crate::acts::Protection;
+use crate::registration::is_on;
+use crate::work::Work;
+use crate::{Deregistering, Procedure, SmfAsk, Subscriber};
+use mm_messages::Mm;
+use nas_base::Memory;
+use nas_timers::TimerId;
+
+/// A subscriber that isn't registered, without a procedure.
+pub fn unregistered(s: Subscriber) -> Subscriber
+    ensures { result ≡ unregistered s }
+{
+    Subscriber {
+        procedure: Procedure::Idle,
+        registered: false,
+        ..s
+    }
+}
+
+// Whether a de-registration by the network is open.
+fn is_deregistering(procedure: &Procedure) -> bool
+    ensures { result ≡ is_deregistering procedure.now }
+{
+    match procedure {
+        Procedure::Deregistering(_) => true,
+        Procedure::Idle | Procedure::Challenging(_) | Procedure::Accepting(_) => false,
+    }
+}
+
+impl<'a> Work<'a> {
+    // Not registered any more.
+    #[tactic(auto, unfolding(crate::specs::Deregistration::deregistered))]
+    fn deregister(&mut self, s: &Subscriber) -> Result<(), Memory>
+        ensures { OnOk result (self.new ≡ deregistered s.now self.old) }
+    {
+        self.stop_open(s)?;
+        self.put(unregistered(s.copy()))?;
+        self.ask(SmfAsk::ReleaseAll, s)
+    }
+
+    /// DEREGISTRATION REQUEST of the handset, which passed.
+    #[tactic(auto, unfolding(crate::specs::Deregistration::deregistration_requested, nas_base::specs::Branches::chosen))]
+    pub fn deregistration_requested(
+        &mut self,
+        number: u16,
+        switch_off: bool,
+        s: &Subscriber,
+    ) -> Result<(), Memory>
+        ensures { OnOk result (self.new ≡ deregistration_requested number switch_off s.now self.old) }
+    {
+        self.deregister(s)?;
+        if switch_off {
+            return Ok(());
+        }
+        self.say(
+            number,
+            Protection::Ciphered(s.supi.copy()),
+            Mm::DeregistrationAcceptUeOriginating,
+        )
+    }
+
+    /// DEREGISTRATION ACCEPT of the handset.
+    #[tactic(auto, unfolding(crate::specs::Deregistration::deregistration_accepted, nas_base::specs::Branches::chosen))]
+    pub fn deregistration_accepted(&mut self, number: u16, s: &Subscriber) -> Result<(), Memory>
+        ensures { OnOk result (self.new ≡ deregistration_accepted number s.now self.old) }
+    {
+        if is_deregistering(&s.procedure) && is_on(number, s.link) {
+            return self.deregister(s);
+        }
+        Ok(())
+    }
+
+    // DEREGISTRATION REQUEST of the network.
+    fn send_deregistration(&mut self, s: &Subscriber) -> Result<(), Memory>
+        ensures { OnOk result (self.new ≡ deregistration_sent s.now self.old) }
+    {
+        self.say_on(
+            s.link,
+            Protection::Ciphered(s.supi.copy()),
+            Mm::DeregistrationRequestUeTerminated {
+                switch_off: false,
+                cause: None,
+            },
+        )
+    }
+
+    /// A de-registration by the network stands as the subscriber's procedure, its request is sent, and its timer runs.
+    pub fn put_deregistration(&mut self, sendings: u8, s: &Subscriber) -> Result<(), Memory>
+        ensures { OnOk result (self.new ≡ deregistration_put (record { sendings = sendings }) s.now self.old) }
+    {
+        let procedure = Procedure::Deregistering(Deregistering { sendings });
+        self.put(Subscriber {
+            procedure,
+            ..s.copy()
+        })?;
+        self.send_deregistration(s)?;
+        self.start(TimerId::T3522, s)
+    }
+}

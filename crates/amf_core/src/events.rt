@@ -1,0 +1,230 @@
+//! Timers that expire, what the SMF wants, and links that are lost.
+ghost use Rattle.std.specs.Prelude.{◌≡◌, ◌<◌, OnOk};
+ghost use Rattle.amf_core.specs.Events.{acceptance_again, acceptance_resent, accepting_expired, carried_down, challenge_again, challenging_expired, deregistering_expired, dropped, expired, expired_of, fenced, fenced_of, is_challenged_on, is_left, link_lost_of, lost_for, sessions_told, unlinked};
+
+use crate::acts::Protection;
+use crate::challenges::{challenge_open, idle};
+use crate::deregistration::unregistered;
+use crate::registration::{acceptance, is_on};
+use crate::work::Work;
+use crate::{Accepting, Challenging, Link, Procedure, Purpose, SmfAsk, Subscriber};
+use nas_base::{Memory, Octets, Psi, Supi};
+use nas_elements::Status;
+use nas_timers::TimerId;
+use std::alloc::Global;
+
+// How often a message is sent (TS 24.501 clauses 5.4.1.3.7, 5.4.2.7, 5.5.1.2.8 and 5.5.2.3.5).
+const SENDINGS: u8 = 5;
+
+// The same challenge, sent once more.
+fn challenge_again(challenging: &Challenging) -> Challenging
+    requires { challenging.now.sendings < 5 }
+    ensures { result ≡ challenge_again challenging.now }
+{
+    Challenging {
+        purpose: challenging.purpose.copy(),
+        link: challenging.link,
+        phase: challenging.phase.copy(),
+        sendings: challenging.sendings + 1,
+    }
+}
+
+// The same acceptance, sent once more.
+fn acceptance_again(accepting: &Accepting) -> Accepting
+    requires { accepting.now.sendings < 5 }
+    ensures { result ≡ acceptance_again accepting.now }
+{
+    Accepting {
+        request: accepting.request.copy(),
+        guti: accepting.guti.copy(),
+        status: accepting.status,
+        sendings: accepting.sendings + 1,
+    }
+}
+
+// Whether a challenge is on this link.
+fn is_challenged_on(number: u16, procedure: &Procedure) -> bool
+    ensures { result ≡ is_challenged_on number procedure.now }
+{
+    match procedure {
+        Procedure::Challenging(challenging) => is_on(number, challenging.link),
+        Procedure::Idle | Procedure::Accepting(_) | Procedure::Deregistering(_) => false,
+    }
+}
+
+// A subscriber that doesn't have this link.
+#[tactic(auto, unfolding(nas_base::specs::Branches::chosen))]
+fn unlinked(number: u16, s: Subscriber) -> Subscriber
+    ensures { result ≡ unlinked number s }
+{
+    let link = if is_on(number, s.link) { None } else { s.link };
+    Subscriber { link, ..s }
+}
+
+impl<'a> Work<'a> {
+    // T3560 of a challenge.
+    #[tactic(auto, unfolding(nas_base::specs::Branches::chosen))]
+    fn challenging_expired(
+        &mut self,
+        challenging: &Challenging,
+        s: Subscriber,
+    ) -> Result<(), Memory>
+        ensures { OnOk result (self.new ≡ challenging_expired challenging.now s self.old) }
+    {
+        if challenging.sendings >= SENDINGS {
+            return self.put(idle(s));
+        }
+        let again = challenge_again(challenging);
+        let s = challenge_open(&again, s);
+        self.put_challenge(&again, s)
+    }
+
+    // REGISTRATION ACCEPT once more.
+    fn resend_acceptance(&mut self, accepting: &Accepting, s: &Subscriber) -> Result<(), Memory>
+        ensures { OnOk result (self.new ≡ acceptance_resent accepting.now s.now self.old) }
+    {
+        let message = acceptance(self.amf.config(), accepting, s);
+        self.say_on(s.link, Protection::Ciphered(s.supi.copy()), message)
+    }
+
+    // T3550 of an acceptance.
+    #[tactic(auto, unfolding(nas_base::specs::Branches::chosen))]
+    fn accepting_expired(&mut self, accepting: &Accepting, s: Subscriber) -> Result<(), Memory>
+        ensures { OnOk result (self.new ≡ accepting_expired accepting.now s self.old) }
+    {
+        if accepting.sendings >= SENDINGS {
+            return self.put(idle(s));
+        }
+        let again = acceptance_again(accepting);
+        self.put(Subscriber {
+            procedure: Procedure::Accepting(again.copy()),
+            ..s.copy()
+        })?;
+        self.resend_acceptance(&again, &s)?;
+        self.start(TimerId::T3550, &s)
+    }
+
+    // T3522 of a de-registration.
+    #[tactic(auto, unfolding(nas_base::specs::Branches::chosen))]
+    fn deregistering_expired(&mut self, sendings: u8, s: &Subscriber) -> Result<(), Memory>
+        ensures { OnOk result (self.new ≡ deregistering_expired (record { sendings = sendings }) s.now self.old) }
+    {
+        if sendings >= SENDINGS {
+            self.put(unregistered(s.copy()))?;
+            return self.ask(SmfAsk::ReleaseAll, s);
+        }
+        self.put_deregistration(sendings + 1, s)
+    }
+
+    // A timer of a subscriber expired. One whose procedure has ended finds no owner.
+    #[tactic(auto, unfolding(crate::specs::Events::expired_of))]
+    fn expired_of(&mut self, id: &TimerId, s: Subscriber) -> Result<(), Memory>
+        ensures { OnOk result (self.new ≡ expired_of id.now s self.old) }
+    {
+        match (id, &s.procedure) {
+            (TimerId::T3560, Procedure::Challenging(challenging)) => {
+                let challenging = challenging.copy();
+                self.challenging_expired(&challenging, s)
+            }
+            (TimerId::T3550, Procedure::Accepting(accepting)) => {
+                let accepting = accepting.copy();
+                self.accepting_expired(&accepting, s)
+            }
+            (TimerId::T3522, Procedure::Deregistering(deregistering)) => {
+                let sendings = deregistering.sendings;
+                self.deregistering_expired(sendings, &s)
+            }
+            _ => Ok(()),
+        }
+    }
+
+    /// A timer of a subscriber expired.
+    #[tactic(auto, unfolding(crate::specs::Events::expired, nas_base::specs::Branches::per))]
+    pub fn expired(&mut self, supi: &Supi, id: &TimerId) -> Result<(), Memory>
+        ensures { OnOk result (self.new ≡ expired supi.now id.now self.old) }
+    {
+        match self.amf.subscriber(supi.as_slice()) {
+            Some(s) => self.expired_of(id, s),
+            None => Ok(()),
+        }
+    }
+
+    // The SMF wants a security mode procedure.
+    #[tactic(auto, unfolding(nas_base::specs::Branches::chosen))]
+    fn fence_one(&mut self, alloc: Global, s: Subscriber) -> Result<(), Memory>
+        ensures { OnOk result (self.new ≡ fenced_of s self.old) }
+    {
+        if !s.procedure.is_idle() {
+            return Ok(());
+        }
+        self.challenge(alloc, Purpose::Command, s.link, None, s)
+    }
+
+    /// The SMF wants a security mode procedure of a subscriber.
+    #[tactic(auto, unfolding(crate::specs::Events::fenced, nas_base::specs::Branches::per))]
+    pub fn fence(&mut self, alloc: Global, supi: &Supi) -> Result<(), Memory>
+        ensures { OnOk result (self.new ≡ fenced supi.now self.old) }
+    {
+        match self.amf.subscriber(supi.as_slice()) {
+            Some(s) => self.fence_one(alloc, s),
+            None => Ok(()),
+        }
+    }
+
+    /// The SMF tells which sessions a subscriber has.
+    #[tactic(auto, unfolding(crate::specs::Events::sessions_told, nas_base::specs::Branches::per))]
+    pub fn sessions_told(&mut self, supi: &Supi, status: Status) -> Result<(), Memory>
+        ensures { OnOk result (self.new ≡ sessions_told supi.now status self.old) }
+    {
+        match self.amf.subscriber(supi.as_slice()) {
+            Some(s) => self.put(Subscriber { status, ..s }),
+            None => Ok(()),
+        }
+    }
+
+    /// The SMF has a message for the handset of a subscriber.
+    #[tactic(auto, unfolding(crate::specs::Events::carried_down, nas_base::specs::Branches::per))]
+    pub fn carry_down(&mut self, supi: &Supi, psi: Psi, frame: Octets) -> Result<(), Memory>
+        ensures { OnOk result (self.new ≡ carried_down supi.now psi frame self.old) }
+    {
+        match self.amf.subscriber(supi.as_slice()) {
+            Some(s) => self.bring_down(psi, frame, &s),
+            None => Ok(()),
+        }
+    }
+
+    // The link of a subscriber is lost.
+    #[tactic(auto, unfolding(nas_base::specs::Branches::chosen))]
+    fn lose_link(&mut self, number: u16, s: Subscriber) -> Result<(), Memory>
+        ensures { OnOk result (self.new ≡ link_lost_of number s self.old) }
+    {
+        if is_challenged_on(number, &s.procedure) {
+            return self.end_open(unlinked(number, s));
+        }
+        self.put(unlinked(number, s))
+    }
+
+    // A link is lost that was this subscriber's, if any.
+    #[tactic(auto, unfolding(nas_base::specs::Branches::per))]
+    fn lose_for(&mut self, supi: &Option<Supi>, number: u16) -> Result<(), Memory>
+        ensures { OnOk result (self.new ≡ lost_for supi.now number self.old) }
+    {
+        let Some(supi) = supi else {
+            return Ok(());
+        };
+        match self.amf.subscriber(supi.as_slice()) {
+            Some(s) => self.lose_link(number, s),
+            None => Ok(()),
+        }
+    }
+
+    /// A link is lost.
+    #[tactic(auto, unfolding(crate::specs::Events::dropped))]
+    pub fn dropped(&mut self, number: u16) -> Result<(), Memory>
+        ensures { OnOk result (self.new ≡ dropped number self.old) }
+    {
+        let supi = self.amf.link(number).supi;
+        self.put_link(Link::unused(number))?;
+        self.lose_for(&supi, number)
+    }
+}

@@ -1,0 +1,226 @@
+//! How what is said becomes octets: spelled, and protected under the contexts of the subscribers.
+ghost use Rattle.std.specs.Prelude.{◌≡◌, ◌≤◌, [], OnOk, length};
+ghost use Rattle.mm_messages.specs.Messages.{spelling};
+ghost use Rattle.amf_core.specs.Framing.{IsSpelled, ciphered_for, commanded_for, framed, framed_all, framed_ciphered, framed_plain, framed_with_new_context, sent, under_in_use, under_new};
+
+use crate::acts::{Act, Acts, Protection};
+use crate::draft::Draft;
+use crate::security_mode::{Commanding, commanding_of};
+use crate::{AmfOut, AmfOuts, Challenging, Phase, Procedure, Subscriber};
+use mm_messages::{Mm, encode_mm};
+use nas_base::{Dir, Memory, Octets, Supi, Writer};
+use nas_security::{Context, Pass, Send, protect};
+use std::alloc::Global;
+
+// Octets of a message at most whose frame has 4,096.
+const LONGEST: usize = 4089;
+
+/// The AMF, whose contexts' counts the messages take, and what was sent and told so far.
+#[derive(Drop)]
+pub struct Framed<'a> {
+    pub amf: Draft<'a>,
+    pub outs: AmfOuts,
+}
+
+impl<'a> Framed<'a> {
+    /// What was said, one after the other.
+    pub fn all(&mut self, alloc: Global, acts: Acts) -> Result<(), Memory>
+        ensures { OnOk result (self.new ≡ framed_all acts self.old) }
+    {
+        for act in acts.items {
+            self.one(alloc, act)?;
+        }
+        Ok(())
+    }
+
+    // One thing that was said.
+    #[tactic(auto, unfolding(crate::specs::Framing::framed))]
+    fn one(&mut self, alloc: Global, act: Act) -> Result<(), Memory>
+        ensures { OnOk result (self.new ≡ framed act self.old) }
+    {
+        match act {
+            Act::Tell(out) => self.outs.push(out),
+            Act::Say {
+                link,
+                protection,
+                message,
+            } => match protection {
+                Protection::Plain => self.plain(alloc, link, &message),
+                Protection::Ciphered(supi) => self.ciphered(alloc, link, &supi, &message),
+                Protection::IntegrityProtectedWithNewContext(supi) => {
+                    self.with_new_context(alloc, link, &supi, &message)
+                }
+            },
+        }
+    }
+
+    // A plain message.
+    #[tactic(auto, unfolding(nas_base::specs::Branches::chosen))]
+    fn plain(&mut self, alloc: Global, link: u16, message: &Mm) -> Result<(), Memory>
+        ensures { OnOk result (self.new ≡ framed_plain link (spelling message.now) self.old) }
+    {
+        let mut out = Writer::new();
+        if !spelled(message, &mut out) {
+            return Ok(());
+        }
+        self.send(alloc, link, out.octets(), None)
+    }
+
+    // A message of header type 2.
+    #[tactic(auto, unfolding(crate::specs::Framing::framed_ciphered, nas_base::specs::Branches::per))]
+    fn ciphered(
+        &mut self,
+        alloc: Global,
+        link: u16,
+        supi: &Supi,
+        message: &Mm,
+    ) -> Result<(), Memory>
+        ensures { OnOk result (self.new ≡ framed_ciphered link supi.now (spelling message.now) self.old) }
+    {
+        match self.amf.subscriber(supi.as_slice()) {
+            Some(s) => self.ciphered_for(alloc, link, message, s),
+            None => self.plain(alloc, link, message),
+        }
+    }
+
+    // The same for a subscriber that is kept.
+    #[tactic(auto, unfolding(nas_base::specs::Branches::per))]
+    fn ciphered_for(
+        &mut self,
+        alloc: Global,
+        link: u16,
+        message: &Mm,
+        s: Subscriber,
+    ) -> Result<(), Memory>
+        ensures { OnOk result (self.new ≡ ciphered_for link (spelling message.now) s self.old) }
+    {
+        match s.in_use {
+            Some(context) => self.under_in_use(alloc, link, message, context, s),
+            None => self.plain(alloc, link, message),
+        }
+    }
+
+    // The same under the context in use.
+    #[tactic(auto, unfolding(nas_base::specs::Branches::chosen))]
+    fn under_in_use(
+        &mut self,
+        alloc: Global,
+        link: u16,
+        message: &Mm,
+        context: Context,
+        s: Subscriber,
+    ) -> Result<(), Memory>
+        ensures { OnOk result (self.new ≡ under_in_use link (spelling message.now) context s self.old) }
+    {
+        let mut plain = Writer::new();
+        if !spelled(message, &mut plain) {
+            return Ok(());
+        }
+        let mut context = context;
+        let mut out = Writer::new();
+        let challenge = context.challenge;
+        let Ok(count) = protect(&mut context, Dir::Down, 2, plain.octets(), &mut out) else {
+            return Ok(());
+        };
+        let pass = Pass {
+            supi: s.supi.copy(),
+            challenge,
+            count,
+        };
+        self.amf.put(Subscriber {
+            in_use: Some(context),
+            ..s
+        })?;
+        self.send(alloc, link, out.octets(), Some(pass))
+    }
+
+    // A message of header type 3.
+    #[tactic(auto, unfolding(crate::specs::Framing::framed_with_new_context, nas_base::specs::Branches::per))]
+    fn with_new_context(
+        &mut self,
+        alloc: Global,
+        link: u16,
+        supi: &Supi,
+        message: &Mm,
+    ) -> Result<(), Memory>
+        ensures { OnOk result (self.new ≡ framed_with_new_context link supi.now (spelling message.now) self.old) }
+    {
+        let Some(s) = self.amf.subscriber(supi.as_slice()) else {
+            return Ok(());
+        };
+        match commanding_of(&s.procedure) {
+            Some(commanding) => self.under_new(alloc, link, message, &commanding, s),
+            None => Ok(()),
+        }
+    }
+
+    // The same under the context that is commanded.
+    #[tactic(auto, unfolding(nas_base::specs::Branches::chosen))]
+    fn under_new(
+        &mut self,
+        alloc: Global,
+        link: u16,
+        message: &Mm,
+        commanding: &Commanding,
+        s: Subscriber,
+    ) -> Result<(), Memory>
+        ensures { OnOk result (self.new ≡ under_new link (spelling message.now) commanding.now s self.old) }
+    {
+        let mut plain = Writer::new();
+        if !spelled(message, &mut plain) {
+            return Ok(());
+        }
+        let mut context = commanding.context;
+        let mut out = Writer::new();
+        let challenge = context.challenge;
+        let Ok(count) = protect(&mut context, Dir::Down, 3, plain.octets(), &mut out) else {
+            return Ok(());
+        };
+        let pass = Pass {
+            supi: s.supi.copy(),
+            challenge,
+            count,
+        };
+        let challenging = Challenging {
+            purpose: commanding.challenging.purpose.copy(),
+            link: commanding.challenging.link,
+            phase: Phase::Mode(context),
+            sendings: commanding.challenging.sendings,
+        };
+        self.amf.put(Subscriber {
+            procedure: Procedure::Challenging(challenging),
+            ..s
+        })?;
+        self.send(alloc, link, out.octets(), Some(pass))
+    }
+
+    // Octets go out.
+    fn send(
+        &mut self,
+        alloc: Global,
+        link: u16,
+        octets: &[u8],
+        pass: Option<Pass>,
+    ) -> Result<(), Memory>
+        requires { length octets.now ≤ 4100 }
+        ensures { OnOk result (self.new ≡ sent link octets.now pass self.old) }
+    {
+        let Ok(octets) = Octets::copy(alloc, octets) else {
+            return Err(Memory);
+        };
+        self.outs.push(AmfOut::Send(Send {
+            link,
+            fresh: false,
+            octets,
+            pass,
+        }))
+    }
+}
+
+// Spells a message whose frame doesn't have more than 4,096 octets.
+fn spelled(message: &Mm, out: &mut Writer) -> bool
+    requires { out.old ≡ [] }
+    ensures { IsSpelled result out.new (spelling message.now) }
+{
+    encode_mm(message, out).is_ok() && out.octets().len() <= LONGEST
+}

@@ -1,0 +1,55 @@
+//! IDENTITY RESPONSE.
+ghost use Rattle.std.specs.Prelude.{◌≡◌, OnOk};
+ghost use Rattle.amf_core.specs.Identification.{identity_told, suci_told, waited};
+
+use crate::Request;
+use crate::work::Work;
+use nas_base::Memory;
+use nas_elements::{Identity, Suci};
+use std::alloc::Global;
+
+impl<'a> Work<'a> {
+    // The request that waited goes on with the subscriber of the SUCI.
+    fn go_on(
+        &mut self,
+        alloc: Global,
+        number: u16,
+        suci: &Suci,
+        request: Request,
+    ) -> Result<(), Memory>
+        ensures { OnOk result (self.new ≡ waited number suci.now request self.old) }
+    {
+        let s = self.named_by_suci(suci);
+        let mut link = self.amf.link(number);
+        link.waiting = None;
+        self.put_link(link)?;
+        self.request_by_suci(alloc, number, &None, request, s)
+    }
+
+    // A SUCI was told.
+    #[tactic(auto, unfolding(nas_base::specs::Branches::per))]
+    fn suci_told(&mut self, alloc: Global, number: u16, suci: &Suci) -> Result<(), Memory>
+        ensures { OnOk result (self.new ≡ suci_told number suci.now self.old) }
+    {
+        match self.amf.link(number).waiting {
+            Some(request) => self.go_on(alloc, number, suci, request),
+            None => Ok(()),
+        }
+    }
+
+    /// IDENTITY RESPONSE.
+    #[tactic(auto, unfolding(crate::specs::Identification::identity_told))]
+    pub fn identity_told(
+        &mut self,
+        alloc: Global,
+        number: u16,
+        identity: &Identity,
+    ) -> Result<(), Memory>
+        ensures { OnOk result (self.new ≡ identity_told number identity.now self.old) }
+    {
+        match identity {
+            Identity::Suci(suci) => self.suci_told(alloc, number, suci),
+            Identity::Guti(_) | Identity::Stmsi(_) | Identity::Other(_) => Ok(()),
+        }
+    }
+}

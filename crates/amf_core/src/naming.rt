@@ -1,0 +1,47 @@
+//! Whom an identity names.
+ghost use Rattle.std.specs.Prelude.{◌≡◌};
+ghost use Rattle.amf_core.specs.Naming.{keeper, kept_for, named_by_suci, suci_digits};
+
+use crate::Subscriber;
+use crate::work::Work;
+use arrayvec::ArrayVec;
+use nas_elements::{Guti, Identity, Suci};
+
+/// The digits of the SUPI that a SUCI names: of the network, and the MSIN.
+pub fn suci_digits(suci: &Suci) -> ArrayVec<u8, 16>
+    ensures { result.items ≡ suci_digits suci.now }
+{
+    let mut digits = ArrayVec::new();
+    digits
+        .try_extend_from_slice(suci.plmn.digits().as_slice())
+        .unwrap();
+    digits.try_extend_from_slice(suci.msin.as_slice()).unwrap();
+    digits
+}
+
+impl<'a> Work<'a> {
+    /// The subscriber that a SUCI names.
+    pub fn named_by_suci(&self, suci: &Suci) -> Option<Subscriber>
+        ensures { result ≡ named_by_suci suci.now self.now }
+    {
+        self.amf.subscriber(suci_digits(suci).as_slice())
+    }
+
+    /// The subscriber that a 5G-GUTI is kept for.
+    pub fn keeper(&self, guti: &Guti) -> Option<Subscriber>
+        ensures { result ≡ keeper guti.now self.now }
+    {
+        self.amf.keeper(guti)
+    }
+
+    /// The subscriber that an identity is kept for.
+    pub fn kept_for(&self, identity: &Identity) -> Option<Subscriber>
+        ensures { result ≡ kept_for identity.now self.now }
+    {
+        match identity {
+            Identity::Guti(guti) => self.amf.keeper(guti),
+            Identity::Stmsi(stmsi) => self.amf.short_keeper(stmsi),
+            Identity::Suci(_) | Identity::Other(_) => None,
+        }
+    }
+}

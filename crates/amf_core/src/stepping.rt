@@ -1,0 +1,130 @@
+//! One step of an AMF.
+ghost use Rattle.std.specs.Prelude.{◌≡◌, OnOk};
+ghost use Rattle.amf_core.specs.Changes.{home_now};
+ghost use Rattle.amf_core.specs.Events.{carried_down};
+ghost use Rattle.amf_core.specs.Outcome.{Works};
+ghost use Rattle.amf_core.specs.Step.{Follows, Steps, step_of, worked};
+
+use crate::acts::Acts;
+use crate::changes::Changes;
+use crate::commands::unrefused;
+use crate::draft::Draft;
+use crate::framing::Framed;
+use crate::work::Work;
+use crate::{Amf, AmfInput, AmfOuts, AmfRefusal};
+use milenage::Home;
+use nas_base::{Memory, Moment, Octets, Psi, Supi};
+use std::alloc::Global;
+
+/// What a step changed, and what goes out.
+#[derive(Drop)]
+pub struct Done {
+    pub changes: Changes,
+    pub outs: AmfOuts,
+}
+
+/// One step of an AMF: the row of an input at a moment; a challenge that starts in it has this RAND. `home` keeps each SUPI that `amf` keeps
+/// (TS 24.501 clauses 4.4, 5 and 7, TS 33.501 clause 6). It costs the records that it changes, and a walk over those of the
+/// subscribers to find one.
+///
+/// # Errors
+///
+/// Of the two commands alone: `UnknownSupi` exactly where the SUPI isn't kept; else `WrongState` exactly where the word isn't Registered or
+/// a procedure is open; else, of `Authenticate`, `SqnSpent` exactly where SQN_HE is 2^48 - 1. Or `Memory`. All is then as before.
+pub fn step(
+    alloc: Global,
+    amf: &mut Amf,
+    home: &mut Home,
+    now: Moment,
+    rand: &[u8; 16],
+    input: &AmfInput,
+) -> Result<AmfOuts, AmfRefusal>
+    ensures { Steps amf.old amf.new home.old home.new result (step_of amf.old home.old now rand.now input.now) }
+{
+    let done = worked_on(alloc, amf, home, now, rand, input)?;
+    let Done { changes, outs } = done;
+    amf.take_over(&changes);
+    take_home(home, changes.home);
+    Ok(outs)
+}
+
+// The home network becomes what it is by now.
+fn take_home(home: &mut Home, after: Option<Home>)
+    ensures { home.new ≡ home_now after home.old }
+{
+    if let Some(after) = after {
+        *home = after;
+    }
+}
+
+// The row of an input, and what it leaves.
+#[tactic(auto, unfolding(crate::specs::Step::ended))]
+fn worked_on(
+    alloc: Global,
+    amf: &Amf,
+    home: &Home,
+    now: Moment,
+    rand: &[u8; 16],
+    input: &AmfInput,
+) -> Result<Done, AmfRefusal>
+    ensures { Follows amf.now home.now result (step_of amf.now home.now now rand.now input.now) }
+{
+    let mut work = Work {
+        moment: now,
+        rand: *rand,
+        amf: Draft::new(alloc, amf, home),
+        acts: Acts::new(alloc),
+    };
+    work.by_input(alloc, input)?;
+    let mut framing = Framed {
+        amf: work.amf,
+        outs: AmfOuts::new(alloc),
+    };
+    match framing.all(alloc, work.acts) {
+        Ok(()) => Ok(Done {
+            changes: framing.amf.changes,
+            outs: framing.outs,
+        }),
+        Err(Memory) => Err(AmfRefusal::Memory),
+    }
+}
+
+impl<'a> Work<'a> {
+    // The row of an input.
+    #[tactic(auto, unfolding(crate::specs::Step::worked))]
+    fn by_input(&mut self, alloc: Global, input: &AmfInput) -> Result<(), AmfRefusal>
+        ensures { Works self.new result (worked input.now self.old) }
+    {
+        let done = match input {
+            AmfInput::Authenticate(supi) => return self.authenticate(alloc, supi),
+            AmfInput::Deregister(supi) => return self.deregister_by(supi),
+            AmfInput::Uplink {
+                link,
+                fresh,
+                octets,
+            } => self.bring_up(alloc, *link, *fresh, octets.as_slice()),
+            AmfInput::Expired { supi, id } => self.expired(supi, id),
+            AmfInput::Fence(supi) => self.fence(alloc, supi),
+            AmfInput::Sessions { supi, status } => self.sessions_told(supi, *status),
+            AmfInput::Down { supi, psi, frame } => self.copy_down(alloc, supi, *psi, frame),
+            AmfInput::Dropped { link } => self.dropped(*link),
+        };
+        unrefused(done)
+    }
+
+    // A 5GSM message of the SMF, which stays its owner's.
+    fn copy_down(
+        &mut self,
+        alloc: Global,
+        supi: &Supi,
+        psi: Psi,
+        frame: &Octets,
+    ) -> Result<(), Memory>
+        ensures { OnOk result (self.new ≡ carried_down supi.now psi frame.now self.old) }
+    {
+        match Octets::copy(alloc, frame.as_slice()) {
+            Ok(frame) => self.carry_down(supi, psi, frame),
+            Err(_) => Err(Memory),
+        }
+    }
+}

@@ -1,0 +1,206 @@
+//! The record of a subscriber.
+ghost use Rattle.std.specs.Prelude.{◌≡◌, [], ◌∷◌};
+ghost use Rattle.amf_core.specs.Naming.{is_any, is_guti, is_short_for};
+ghost use Rattle.amf_core.specs.State.{unknown_yet, view_of, word_of};
+
+use crate::requests::{copied, is_guti};
+use crate::{AmfSubscriber, NetView, Procedure};
+use arrayvec::ArrayVec;
+use nas_base::{AmfWord, Ksi, Supi};
+use nas_elements::{Capability, Guti, Nssai, Status, Stmsi};
+use nas_security::{Challenge, Context};
+use std::marker::Model;
+
+/// The 5G-GUTIs that are kept for a subscriber, at most two, the older one first.
+#[derive(Drop)]
+pub struct Gutis {
+    pub items: ArrayVec<Guti, 2>,
+}
+
+impl Model for Gutis {
+    ghost use Rattle.std.specs.Prelude.{List};
+    ghost use Rattle.nas_elements.specs.declared.guti.Guti.{Guti};
+
+    ghost Value = { List Guti };
+
+    ghost view = { λ g. g.items.items };
+}
+
+/// The 5G-GUTI that was offered last, and the challenge of the context that it was offered under.
+#[derive(Drop)]
+pub struct Offer {
+    pub guti: Guti,
+    pub challenge: Challenge,
+}
+
+/// What an AMF keeps of a subscriber.
+#[derive(Drop)]
+pub struct Subscriber {
+    pub supi: Supi,
+    /// The slices that are subscribed.
+    pub slices: Nssai,
+    /// The security context in use.
+    pub in_use: Option<Context>,
+    pub procedure: Procedure,
+    pub kept: Gutis,
+    pub offered: Option<Offer>,
+    pub registered: bool,
+    /// Whether the last 5G-GUTI that was offered has been confirmed.
+    pub completed: bool,
+    /// The link that a message of its last passed on, 1 to 64, until that is lost.
+    pub link: Option<u16>,
+    /// The last ngKSI that was used.
+    pub last_ksi: Option<Ksi>,
+    /// The capability of the last request that started a challenge.
+    pub capability: Option<Capability>,
+    /// The sessions that the SMF told last.
+    pub status: Status,
+}
+
+impl Gutis {
+    /// None.
+    pub fn none() -> Gutis
+        ensures { result ≡ [] }
+    {
+        Gutis {
+            items: ArrayVec::new(),
+        }
+    }
+
+    /// One alone.
+    pub fn one(guti: Guti) -> Gutis
+        ensures { result ≡ guti ∷ [] }
+    {
+        let mut items = ArrayVec::new();
+        items.push(guti);
+        Gutis { items }
+    }
+
+    /// Two, the older one first.
+    pub fn two(older: Guti, newer: Guti) -> Gutis
+        ensures { result ≡ older ∷ newer ∷ [] }
+    {
+        let mut items = ArrayVec::new();
+        items.push(older);
+        items.push(newer);
+        Gutis { items }
+    }
+
+    /// Those that are kept, in order.
+    pub fn as_slice(&self) -> &[Guti]
+        ensures { result.now ≡ self.now }
+    {
+        self.items.as_slice()
+    }
+
+    /// Whether this one is kept.
+    pub fn has(&self, guti: &Guti) -> bool
+        ensures { result ≡ is_any (is_guti guti.now) self.now }
+    {
+        for kept in self.items.as_slice() {
+            if is_guti(guti, kept) {
+                return true;
+            }
+        }
+        false
+    }
+
+    /// Whether one is kept that this is short for.
+    pub fn has_short(&self, stmsi: &Stmsi) -> bool
+        ensures { result ≡ is_any (is_short_for stmsi.now) self.now }
+    {
+        for kept in self.items.as_slice() {
+            if stmsi.set_pointer == kept.set_pointer && stmsi.tmsi == kept.tmsi {
+                return true;
+            }
+        }
+        false
+    }
+
+    /// An equal value.
+    pub fn copy(&self) -> Gutis
+        ensures { result ≡ self.now }
+    {
+        match self.items.as_slice() {
+            [] => Gutis::none(),
+            [one] => Gutis::one(one.copy()),
+            [older, newer, ..] => Gutis::two(older.copy(), newer.copy()),
+        }
+    }
+}
+
+/// An equal offer, where there is one.
+pub fn copied_offer(offer: &Option<Offer>) -> Option<Offer>
+    ensures { result ≡ offer.now }
+{
+    match offer {
+        Some(offer) => Some(Offer {
+            guti: offer.guti.copy(),
+            challenge: offer.challenge,
+        }),
+        None => None,
+    }
+}
+
+impl Subscriber {
+    /// A subscriber of whom nothing is known yet.
+    pub fn unknown_yet(config: &AmfSubscriber) -> Subscriber
+        ensures { result ≡ unknown_yet config.now }
+    {
+        Subscriber {
+            supi: config.supi.copy(),
+            slices: config.slices.copy(),
+            in_use: None,
+            procedure: Procedure::Idle,
+            kept: Gutis::none(),
+            offered: None,
+            registered: false,
+            completed: false,
+            link: None,
+            last_ksi: None,
+            capability: None,
+            status: Status::empty(),
+        }
+    }
+
+    /// An equal value.
+    pub fn copy(&self) -> Subscriber
+        ensures { result ≡ self.now }
+    {
+        Subscriber {
+            supi: self.supi.copy(),
+            slices: self.slices.copy(),
+            in_use: self.in_use,
+            procedure: self.procedure.copy(),
+            kept: self.kept.copy(),
+            offered: copied_offer(&self.offered),
+            registered: self.registered,
+            completed: self.completed,
+            link: self.link,
+            last_ksi: self.last_ksi,
+            capability: copied(&self.capability),
+            status: self.status,
+        }
+    }
+
+    /// Its word.
+    pub fn word(&self) -> AmfWord
+        ensures { result ≡ word_of self.now }
+    {
+        self.procedure.word(self.registered)
+    }
+
+    /// What can be seen of it.
+    pub fn view(&self) -> NetView
+        ensures { result ≡ view_of self.now }
+    {
+        NetView {
+            state: self.word(),
+            registered: self.registered,
+            in_use: self.in_use,
+            pending: self.procedure.pending(),
+            kept: self.kept.copy(),
+            completed: self.completed,
+        }
+    }
+}
