@@ -1,6 +1,6 @@
 //! One step of an AMF.
 ghost use Rattle.std.specs.Prelude.{◌≡◌, OnOk};
-ghost use Rattle.amf_core.specs.Changes.{home_now};
+ghost use Rattle.amf_core.specs.Changes.{changed, home_now};
 ghost use Rattle.amf_core.specs.Events.{carried_down};
 ghost use Rattle.amf_core.specs.Outcome.{Works};
 ghost use Rattle.amf_core.specs.Step.{Follows, Steps, step_of, worked};
@@ -16,7 +16,7 @@ use milenage::Home;
 use nas_base::{Memory, Moment, Octets, Psi, Supi};
 use std::alloc::Global;
 
-/// What a step changed, and what goes out.
+/// What a step changes, and what goes out.
 #[derive(Drop)]
 pub struct Done {
     pub changes: Changes,
@@ -41,11 +41,22 @@ pub fn step(
 ) -> Result<AmfOuts, AmfRefusal>
     ensures { Steps amf.old amf.new home.old home.new result (step_of amf.old home.old now rand.now input.now) }
 {
-    let done = worked_on(alloc, amf, home, now, rand, input)?;
-    let Done { changes, outs } = done;
-    amf.take_over(&changes);
-    take_home(home, changes.home);
-    Ok(outs)
+    let done = follow(alloc, amf, home, now, rand, input)?;
+    Ok(done.take_over(amf, home))
+}
+
+impl Done {
+    /// Takes the changes over, and answers what goes out. It takes no memory.
+    pub fn take_over(self, amf: &mut Amf, home: &mut Home) -> AmfOuts
+        ensures amf { amf.new ≡ changed self.changes amf.old }
+        ensures home { home.new ≡ home_now self.changes.home home.old }
+        ensures outs { result ≡ self.outs }
+    {
+        let Done { changes, outs } = self;
+        amf.take_over(&changes);
+        take_home(home, changes.home);
+        outs
+    }
 }
 
 // The home network becomes what it is by now.
@@ -57,9 +68,13 @@ fn take_home(home: &mut Home, after: Option<Home>)
     }
 }
 
-// The row of an input, and what it leaves.
+/// The row of an input, as `step` says it: what it changes, which is not taken over yet, and what goes out.
+///
+/// # Errors
+///
+/// Those of `step`.
 #[tactic(auto, unfolding(crate::specs::Step::ended))]
-fn worked_on(
+pub fn follow(
     alloc: Global,
     amf: &Amf,
     home: &Home,
