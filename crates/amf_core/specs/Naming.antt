@@ -1,5 +1,5 @@
 -- Whom an identity names (TS 24.501 clause 9.11.3.4).
-use Rattle.std.specs.Prelude.{ℕ, Bool, true, false, ◌==◌, ◌&&◌, ◌||◌, List, [], ◌∷◌, ◌++◌, Option, Some, None, if◌then◌else◌}
+use Rattle.std.specs.Prelude.{ℕ, Bool, true, false, not, ◌==◌, ◌&&◌, ◌||◌, List, [], ◌∷◌, ◌++◌, Option, Some, None, if◌then◌else◌}
 use Rattle.std.specs.Str.{bytes_eq}
 use Rattle.nas_base.specs.Plmn.{PlmnIdentity, plmn_digits}
 use Rattle.nas_elements.specs.Suci.{SuciParts}
@@ -9,6 +9,7 @@ use Rattle.nas_elements.specs.declared.identity.Identity.{Identity}
 use Rattle.nas_elements.specs.declared.identity.Identity.TheVariants as identities
 use Rattle.amf_core.specs.Drafts.{by_now}
 use Rattle.amf_core.specs.Keyed.{found}
+use Rattle.amf_core.specs.State.{has_supi}
 use Rattle.amf_core.specs.Work.{subscriber}
 use Rattle.amf_core.specs.declared.subscriber.Subscriber.{Subscriber}
 use Rattle.amf_core.specs.declared.work.Work.{Work}
@@ -46,6 +47,13 @@ keeper g w = found (keeps_guti g) (by_now w.amf).subscribers
 
 abbrev pub short_keeper : Stmsi → Work → Option Subscriber
 short_keeper t w = found (keeps_stmsi t) (by_now w.amf).subscribers
+
+-- a 5G-GUTI is kept for another subscriber than the one of this SUPI
+abbrev pub keeps_for_another : List ℕ → Guti → Subscriber → Bool
+keeps_for_another supi g s = not (has_supi supi s) && keeps_guti g s
+
+abbrev pub is_kept_for_another : List ℕ → Guti → List Subscriber → Bool
+is_kept_for_another supi g subscribers = is_any (keeps_for_another supi g) subscribers
 
 -- for whom the identity of a request is kept
 abbrev pub kept_for : Identity → Work → Option Subscriber

@@ -1,10 +1,11 @@
 //! Whom an identity names.
 ghost use Rattle.std.specs.Prelude.{◌≡◌};
-ghost use Rattle.amf_core.specs.Naming.{keeper, kept_for, named_by_suci, suci_digits};
+ghost use Rattle.amf_core.specs.Naming.{is_kept_for_another, keeper, kept_for, named_by_suci, suci_digits};
 
-use crate::Subscriber;
 use crate::work::Work;
+use crate::{Amf, Subscriber};
 use arrayvec::ArrayVec;
+use nas_base::Supi;
 use nas_elements::{Guti, Identity, Suci};
 
 /// The digits of the SUPI that a SUCI names: of the network, and the MSIN.
@@ -43,5 +44,19 @@ impl<'a> Work<'a> {
             Identity::Stmsi(stmsi) => self.amf.short_keeper(stmsi),
             Identity::Suci(_) | Identity::Other(_) => None,
         }
+    }
+}
+
+impl Amf {
+    /// Whether a 5G-GUTI is kept for another subscriber than the one of this SUPI. It walks over all records.
+    pub fn keeps_for_another(&self, supi: &Supi, guti: &Guti) -> bool
+        ensures { result ≡ is_kept_for_another supi.now guti.now self.now.subscribers }
+    {
+        for record in self.subscribers.as_slice() {
+            if record.supi.as_slice() != supi.as_slice() && record.kept.has(guti) {
+                return true;
+            }
+        }
+        false
     }
 }
