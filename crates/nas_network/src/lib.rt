@@ -5,8 +5,6 @@
 mod beginning;
 mod command;
 mod config;
-#[cfg(test)]
-mod ends_tests;
 mod network;
 #[cfg(test)]
 mod test_network;
