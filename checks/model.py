@@ -104,7 +104,7 @@ class Keys:
     """What the card and the network share."""
 
     def __init__(self, r):
-        self.k, self.opc, self.sqn = hexes(r, 16), hexes(r, 16), r.choice(("ff9bb4d0b606", "000000000000", "ffffffffffff", hexes(r, 6)))
+        self.k, self.opc, self.sqn = hexes(r, 16), hexes(r, 16), r.choice(("ff9bb4d0b606",) * 6 + ("000000000000", "fffffffffffd", "ffffffffffff", hexes(r, 6)))
 
 
 def subscriber(r, w, plmn, supi, keys):
@@ -122,7 +122,7 @@ def subscriber(r, w, plmn, supi, keys):
 
 
 def handset(r, w, supi, keys, capability):
-    sqn = keys.sqn if r.random() < 0.7 else hexes(r, 6)
+    sqn = keys.sqn if r.random() < 0.85 else hexes(r, 6)
     pairs = [
         ("supi", w.of(text(supi), [text(supi[:-1]), text(supi + "0"), text("9" + supi[1:])])),
         ("k", w.of(text(keys.k), [text(keys.k[2:])])),
@@ -149,7 +149,7 @@ def configuration(r, rate):
     r.shuffle(known)
     if known and w.now():
         known.append(r.choice(known))
-    capability = r.choice(("a020", "a020", "a020", "2020", "8020", "a0a0", "f0f0f0f0", "8080", "0020")) if r.random() < 0.8 else hexes(r, r.randint(2, 8))
+    capability = "a020" if r.random() < 0.7 else r.choice(("2020", "8020", "a0a0", "f0f0f0f0", "8080", "0020", hexes(r, r.randint(2, 8))))
     out = []
     if not w.now():
         out.append(network(r, w, plmn))
@@ -258,17 +258,17 @@ class Walk:
     def line(self):
         d = self.r.random()
         made = None
-        if d < 0.55:
+        if d < 0.66:
             made = self.next_message()
-        elif d < 0.62:
+        elif d < 0.71:
             made = self.any_message()
-        elif d < 0.76:
-            made = self.r.choice(COMMANDS)
         elif d < 0.80:
+            made = self.r.choice(COMMANDS)
+        elif d < 0.84:
             made = self.r.choice(ORDERS)
-        elif d < 0.87:
+        elif d < 0.89:
             made = self.moment()
-        elif d < 0.90:
+        elif d < 0.91:
             made = self.r.choice(LOSSES)
         elif d < 0.92:
             made = "random " + hexes(self.r, 16)
