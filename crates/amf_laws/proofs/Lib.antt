@@ -1,0 +1,14 @@
+pub mod Branching
+pub mod Records
+pub mod LinkRecords
+pub mod Told
+pub mod Moves
+pub mod Chains
+pub mod ChallengeRows
+pub mod RegistrationRows
+pub mod AnswerRows
+pub mod EventRows
+pub mod DeliveryRows
+pub mod FitLaws
+pub mod FramedFit
+pub mod TimerLaws
