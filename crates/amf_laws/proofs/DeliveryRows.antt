@@ -30,13 +30,12 @@ use Rattle.amf_core.specs.declared.subscriber.Subscriber.{Subscriber}
 use Rattle.amf_core.specs.declared.work.Work.{Work}
 use Rattle.amf_laws.proofs.AnswerRows.{failed_settles, mode_completed_settles, mode_rejected_settles, responded_settles, service_settles, transported_settles}
 use Rattle.amf_laws.proofs.Branching.{per_holds, when_holds}
-use Rattle.amf_laws.proofs.Chains.{Chain, IsChecked, IsCurrent, Received, distinct_now, found_is_current, keeper_is_current, kept_now, link_is_current, short_keeper_is_current}
+use Rattle.amf_laws.proofs.Chains.{Chain, IsChecked, IsCurrent, Received, found_is_current, keeper_is_current, kept_now, link_is_current, short_keeper_is_current}
 use Rattle.amf_laws.proofs.Chains.Chain.{nothing, speaks, waits, passes, does}
 use Rattle.amf_laws.proofs.FitLaws.{checked_is_of, noted_is_current}
 use Rattle.amf_laws.proofs.Moves.{Beginning, Moves, Settled, begins}
 use Rattle.amf_laws.proofs.Moves.Moves.{here}
 use Rattle.amf_laws.proofs.RegistrationRows.{completed_settles, deregistration_accepted_settles, deregistration_requested_settles, requested_settles}
-use Rattle.amf_laws.specs.Timers.{AreDistinct}
 
 -- whom an identity names, of those that a request's row looks for
 abbrev pub names : Identity → Work → Option Subscriber
@@ -64,24 +63,22 @@ by_guti_chain {May} {u} {w} number passed r found is may h =
     (λ s e. does s (is s e) (may s e) (requested_settles number passed r s refl here) h)
 
 by_identity_chain : {May : List ℕ → Type 0} {u : Received} {w : Work} (number : ℕ) (passed : Option (List ℕ)) (registration : RegistrationType) (ksi : ℕ)
-    (identity : Identity) (capability : Option (List ℕ)) (told : Option (List Bool)) → AreDistinct w.amf.before.amf.subscribers
-    → MayNamed May (names identity w) → Chain May u w
+    (identity : Identity) (capability : Option (List ℕ)) (told : Option (List Bool)) → MayNamed May (names identity w) → Chain May u w
     → Chain May u (request_by_identity number passed registration ksi identity capability told w)
-by_identity_chain {May} {u} {w} number passed registration ksi (identities.Suci x) capability told distinct may h =
+by_identity_chain {May} {u} {w} number passed registration ksi (identities.Suci x) capability told may h =
     by_suci_chain number passed _ (named_by_suci x w) (found_is_current (suci_digits x) w) may h
-by_identity_chain {May} {u} {w} number passed registration ksi (identities.Guti g) capability told distinct may h =
-    by_guti_chain number passed _ (keeper g w) (λ s e. keeper_is_current g w s (distinct_now w distinct) e) may h
-by_identity_chain number passed registration ksi (identities.Stmsi t) capability told distinct may h = speaks number _ _ h
-by_identity_chain number passed registration ksi (identities.Other octets) capability told distinct may h = speaks number _ _ h
+by_identity_chain {May} {u} {w} number passed registration ksi (identities.Guti g) capability told may h =
+    by_guti_chain number passed _ (keeper g w) (keeper_is_current g w) may h
+by_identity_chain number passed registration ksi (identities.Stmsi t) capability told may h = speaks number _ _ h
+by_identity_chain number passed registration ksi (identities.Other octets) capability told may h = speaks number _ _ h
 
 registration_chain : {May : List ℕ → Type 0} {u : Received} {w : Work} (number : ℕ) (passed : Option (List ℕ)) (registration : RegistrationType) (ksi : ℕ)
-    (identity : Identity) (capability : Option (List ℕ)) (told : Option (List Bool)) → AreDistinct w.amf.before.amf.subscribers
-    → MayNamed May (names identity w) → Chain May u w
+    (identity : Identity) (capability : Option (List ℕ)) (told : Option (List Bool)) → MayNamed May (names identity w) → Chain May u w
     → Chain May u (registration_requested number passed registration ksi identity capability told w)
 unfolding registration_requested
-registration_chain {May} {u} {w} number passed registration ksi identity capability told distinct may h =
+registration_chain {May} {u} {w} number passed registration ksi identity capability told may h =
     when_holds (λ (x : Work). Chain May u x) (is_emergency registration) _ _ (λ _. speaks number _ _ h)
-    (λ _. by_identity_chain number passed registration ksi identity capability told distinct may h)
+    (λ _. by_identity_chain number passed registration ksi identity capability told may h)
 
 -- an identity that was asked for
 waited_chain : {May : List ℕ → Type 0} {u : Received} {w : Work} (number : ℕ) (x : SuciParts) (r : Request) → MayNamed May (named_by_suci x w)
@@ -113,53 +110,52 @@ when_pending {May} {u} {w} number c message is may h =
     when_holds (λ (x : Work). Chain May u x) c.is_pending _ w
     (λ _. does c.subscriber is may (mode_completed_settles number message c.subscriber refl here) h) (λ _. h)
 
-taken_chain : {May : List ℕ → Type 0} {u : Received} {w : Work} (number : ℕ) (c : Check) (m : Mm) → AreDistinct w.amf.before.amf.subscribers
-    → IsCurrent c.subscriber w → May c.subscriber.supi → MayNamed May (named_by m w) → Chain May u w
+taken_chain : {May : List ℕ → Type 0} {u : Received} {w : Work} (number : ℕ) (c : Check) (m : Mm) → IsCurrent c.subscriber w → May c.subscriber.supi → MayNamed May (named_by m w) → Chain May u w
     → Chain May u (taken number c m w)
 unfolding taken
-taken_chain number c (RegistrationRequest registration ksi identity capability told) distinct is may named h =
-    registration_chain number (Some c.subscriber.supi) registration ksi identity capability told distinct named h
-taken_chain number c RegistrationComplete distinct is may named h =
+taken_chain number c (RegistrationRequest registration ksi identity capability told) is may named h =
+    registration_chain number (Some c.subscriber.supi) registration ksi identity capability told named h
+taken_chain number c RegistrationComplete is may named h =
     does c.subscriber is may (completed_settles c.challenge c.subscriber refl here) h
-taken_chain number c (DeregistrationRequestUeOriginating switch_off ksi identity) distinct is may named h =
+taken_chain number c (DeregistrationRequestUeOriginating switch_off ksi identity) is may named h =
     does c.subscriber is may (deregistration_requested_settles number switch_off c.subscriber refl here) h
-taken_chain number c DeregistrationAcceptUeTerminated distinct is may named h =
+taken_chain number c DeregistrationAcceptUeTerminated is may named h =
     does c.subscriber is may (deregistration_accepted_settles number c.subscriber refl here) h
-taken_chain number c (ServiceRequest ksi service_type identity told) distinct is may named h =
+taken_chain number c (ServiceRequest ksi service_type identity told) is may named h =
     does c.subscriber is may (service_settles number c.subscriber here) h
-taken_chain number c (AuthenticationResponse res_star) distinct is may named h =
+taken_chain number c (AuthenticationResponse res_star) is may named h =
     does c.subscriber is may (responded_settles number res_star c.subscriber refl here) h
-taken_chain number c (AuthenticationFailure cause auts) distinct is may named h =
+taken_chain number c (AuthenticationFailure cause auts) is may named h =
     does c.subscriber is may (failed_settles number cause auts c.subscriber refl here) h
-taken_chain number c (IdentityResponse identity) distinct is may named h = identity_chain number identity named h
-taken_chain number c (SecurityModeComplete message) distinct is may named h = when_pending number c message is may h
-taken_chain number c (SecurityModeReject cause) distinct is may named h =
+taken_chain number c (IdentityResponse identity) is may named h = identity_chain number identity named h
+taken_chain number c (SecurityModeComplete message) is may named h = when_pending number c message is may h
+taken_chain number c (SecurityModeReject cause) is may named h =
     does c.subscriber is may (mode_rejected_settles number c.subscriber refl here) h
-taken_chain number c (UlNasTransport container_type container psi request_type slice dnn) distinct is may named h =
+taken_chain number c (UlNasTransport container_type container psi request_type slice dnn) is may named h =
     does c.subscriber is may (transported_settles number c.challenge container_type container psi slice dnn c.subscriber here) h
-taken_chain number c (RegistrationAccept result guti tai_list nssai told t3512) distinct is may named h = h
-taken_chain number c (RegistrationReject cause) distinct is may named h = h
-taken_chain number c DeregistrationAcceptUeOriginating distinct is may named h = h
-taken_chain number c (DeregistrationRequestUeTerminated switch_off cause) distinct is may named h = h
-taken_chain number c (ServiceReject cause told) distinct is may named h = h
-taken_chain number c (ServiceAccept told) distinct is may named h = h
-taken_chain number c (ConfigurationUpdateCommand indication guti) distinct is may named h = h
-taken_chain number c ConfigurationUpdateComplete distinct is may named h = h
-taken_chain number c (AuthenticationRequest ksi abba rand autn) distinct is may named h = h
-taken_chain number c AuthenticationReject distinct is may named h = h
-taken_chain number c (IdentityRequest identity_type) distinct is may named h = h
-taken_chain number c (SecurityModeCommand algs ksi capability information) distinct is may named h = h
-taken_chain number c (FiveGmmStatus cause) distinct is may named h = h
-taken_chain number c (DlNasTransport container_type container psi cause) distinct is may named h = h
+taken_chain number c (RegistrationAccept result guti tai_list nssai told t3512) is may named h = h
+taken_chain number c (RegistrationReject cause) is may named h = h
+taken_chain number c DeregistrationAcceptUeOriginating is may named h = h
+taken_chain number c (DeregistrationRequestUeTerminated switch_off cause) is may named h = h
+taken_chain number c (ServiceReject cause told) is may named h = h
+taken_chain number c (ServiceAccept told) is may named h = h
+taken_chain number c (ConfigurationUpdateCommand indication guti) is may named h = h
+taken_chain number c ConfigurationUpdateComplete is may named h = h
+taken_chain number c (AuthenticationRequest ksi abba rand autn) is may named h = h
+taken_chain number c AuthenticationReject is may named h = h
+taken_chain number c (IdentityRequest identity_type) is may named h = h
+taken_chain number c (SecurityModeCommand algs ksi capability information) is may named h = h
+taken_chain number c (FiveGmmStatus cause) is may named h = h
+taken_chain number c (DlNasTransport container_type container psi cause) is may named h = h
 
 by_table_chain : {May : List ℕ → Type 0} {u : Received} {w : Work} (a : Action) (number : ℕ) (c : Check) (m : Mm)
-    → AreDistinct w.amf.before.amf.subscribers → IsCurrent c.subscriber w → May c.subscriber.supi → MayNamed May (named_by m w)
+    → IsCurrent c.subscriber w → May c.subscriber.supi → MayNamed May (named_by m w)
     → Chain May u w → Chain May u (by_table a number c m w)
-by_table_chain Take number c m distinct is may named h = taken_chain number c m distinct is may named h
-by_table_chain Status98 number c m distinct is may named h = speaks number _ _ h
-by_table_chain Discard number c m distinct is may named h = h
-by_table_chain Status43 number c m distinct is may named h = h
-by_table_chain Status47 number c m distinct is may named h = h
+by_table_chain Take number c m is may named h = taken_chain number c m is may named h
+by_table_chain Status98 number c m is may named h = speaks number _ _ h
+by_table_chain Discard number c m is may named h = h
+by_table_chain Status43 number c m is may named h = h
+by_table_chain Status47 number c m is may named h = h
 
 -- whom what was read names
 abbrev pub named_in : Result Mm MmRefusal → Work → Option Subscriber
@@ -167,65 +163,62 @@ named_in (Ok m) w = named_by m w
 named_in (Err refusal) w = None
 
 read_chain : {May : List ℕ → Type 0} {u : Received} {w : Work} (read : Result Mm MmRefusal) (octets : List ℕ) (number : ℕ) (c : Check)
-    → AreDistinct w.amf.before.amf.subscribers → IsCurrent c.subscriber w → May c.subscriber.supi → MayNamed May (named_in read w)
+    → IsCurrent c.subscriber w → May c.subscriber.supi → MayNamed May (named_in read w)
     → Chain May u w → Chain May u (passed_read read octets number c w)
-read_chain (Ok m) octets number c distinct is may named h = by_table_chain (action m c.subscriber) number c m distinct is may named h
-read_chain (Err (refusals.Ignored at)) octets number c distinct is may named h = h
-read_chain (Err (refusals.UnknownType n)) octets number c distinct is may named h = speaks number _ _ h
-read_chain {May} {u} {w} (Err (refusals.Mandatory n at)) octets number c distinct is may named h =
+read_chain (Ok m) octets number c is may named h = by_table_chain (action m c.subscriber) number c m is may named h
+read_chain (Err (refusals.Ignored at)) octets number c is may named h = h
+read_chain (Err (refusals.UnknownType n)) octets number c is may named h = speaks number _ _ h
+read_chain {May} {u} {w} (Err (refusals.Mandatory n at)) octets number c is may named h =
     when_holds (λ (x : Work). Chain May u x) (type_of octets == five_gmm_status) w _ (λ _. h) (λ _. speaks number _ _ h)
-read_chain (Err refusals.Memory) octets number c distinct is may named h = h
+read_chain (Err refusals.Memory) octets number c is may named h = h
 
 -- those that may have a row where octets passed: the subscriber that they were checked for, and whom the message names
 pub record MayPass (May : List ℕ → Type 0) (number : ℕ) (octets : List ℕ) (s : Subscriber) (w : Work) : Type 0 where
   pub itself : (p : Passage) → IsChecked number octets s p → May s.supi
   pub named : (p : Passage) → IsChecked number octets s p → MayNamed May (named_in (mm_in p.message) (noted number p.check w))
 
-passing_chain : {May : List ℕ → Type 0} (u : Received) (s : Subscriber) (p : Passage) → AreDistinct u.first.amf.before.amf.subscribers
-    → IsCurrent s u.first → MayPass May u.number u.octets s u.first → IsChecked u.number u.octets s p
+passing_chain : {May : List ℕ → Type 0} (u : Received) (s : Subscriber) (p : Passage) → IsCurrent s u.first → MayPass May u.number u.octets s u.first → IsChecked u.number u.octets s p
     → Chain May u (passing u.number p u.first)
 unfolding passed put put_link
-passing_chain {May} u s p distinct is may checked =
+passing_chain {May} u s p is may checked =
     let itself : May p.check.subscriber.supi = subst May (sym (checked_is_of u.number u.octets s p checked).supi) (may.itself p checked) in
-    read_chain (mm_in p.message) p.message u.number p.check distinct (noted_is_current u.number p (checked_is_of u.number u.octets s p checked) is) itself
+    read_chain (mm_in p.message) p.message u.number p.check (noted_is_current u.number p (checked_is_of u.number u.octets s p checked) is) itself
     (may.named p checked) (passes s p is (may.itself p checked) checked)
 
 -- header type 2, and 1 where it passes
 by_check_chain : {May : List ℕ → Type 0} (u : Received) (found : Option Subscriber) (p : Passage)
-    → AreDistinct u.first.amf.before.amf.subscribers → ((s : Subscriber) → found ≡ Some s → IsCurrent s u.first)
+    → ((s : Subscriber) → found ≡ Some s → IsCurrent s u.first)
     → ((s : Subscriber) → found ≡ Some s → MayPass May u.number u.octets s u.first)
     → check_of found u.number u.octets ≡ Some p → Chain May u (passing u.number p u.first)
-by_check_chain {May} u found p distinct is may =
+by_check_chain {May} u found p is may =
     per_holds (λ (x : Option Passage). x ≡ Some p → Chain May u (passing u.number p u.first)) found None _
     (λ _ e. absurd (cc))
-    (λ s has e. passing_chain u s p distinct (is s has) (may s has) (inl e))
+    (λ s has e. passing_chain u s p (is s has) (may s has) (inl e))
 
 in_use_chain : {May : List ℕ → Type 0} (u : Received) (found : Option Subscriber) (without : Work)
-    → AreDistinct u.first.amf.before.amf.subscribers → ((s : Subscriber) → found ≡ Some s → IsCurrent s u.first)
+    → ((s : Subscriber) → found ≡ Some s → IsCurrent s u.first)
     → ((s : Subscriber) → found ≡ Some s → MayPass May u.number u.octets s u.first) → Chain May u without
     → Chain May u (per (check_of found u.number u.octets) without (λ (p : Passage). passing u.number p u.first))
-in_use_chain {May} u found without distinct is may other =
+in_use_chain {May} u found without is may other =
     per_holds (λ (x : Work). Chain May u x) (check_of found u.number u.octets) without _ (λ _. other)
-    (λ p e. by_check_chain u found p distinct is may e)
+    (λ p e. by_check_chain u found p is may e)
 
-ciphered_chain : {May : List ℕ → Type 0} (u : Received) → AreDistinct u.first.amf.before.amf.subscribers
-    → ((s : Subscriber) → subscriber_of_link u.number u.first ≡ Some s → MayPass May u.number u.octets s u.first)
+ciphered_chain : {May : List ℕ → Type 0} (u : Received) → ((s : Subscriber) → subscriber_of_link u.number u.first ≡ Some s → MayPass May u.number u.octets s u.first)
     → Chain May u (ciphered u.number u.octets u.first)
 unfolding ciphered
-ciphered_chain u distinct may =
-    in_use_chain u (subscriber_of_link u.number u.first) u.first distinct (link_is_current u.number u.first) may nothing
+ciphered_chain u may =
+    in_use_chain u (subscriber_of_link u.number u.first) u.first (link_is_current u.number u.first) may nothing
 
 -- header type 4
-new_context_chain : {May : List ℕ → Type 0} (u : Received) → AreDistinct u.first.amf.before.amf.subscribers
-    → ((s : Subscriber) → subscriber_of_link u.number u.first ≡ Some s → MayPass May u.number u.octets s u.first)
+new_context_chain : {May : List ℕ → Type 0} (u : Received) → ((s : Subscriber) → subscriber_of_link u.number u.first ≡ Some s → MayPass May u.number u.octets s u.first)
     → Chain May u (under_new_context u.number u.octets u.first)
 unfolding under_new_context
-new_context_chain {May} u distinct may =
+new_context_chain {May} u may =
     per_holds (λ (x : Work). Chain May u x) (subscriber_of_link u.number u.first) u.first _ (λ _. nothing)
     (λ s has. per_holds (λ (x : Work). Chain May u x) (checked_pending u.number u.octets s) _ _
     (λ _. per_holds (λ (x : Work). Chain May u x) (checked_in_use u.number u.octets s) u.first _ (λ _. nothing)
-    (λ p e. passing_chain u s p distinct (link_is_current u.number u.first s has) (may s has) (inl e)))
-    (λ p e. passing_chain u s p distinct (link_is_current u.number u.first s has) (may s has) (inr e)))
+    (λ p e. passing_chain u s p (link_is_current u.number u.first s has) (may s has) (inl e)))
+    (λ p e. passing_chain u s p (link_is_current u.number u.first s has) (may s has) (inr e)))
 
 -- a plain message
 of_link_chain : {May : List ℕ → Type 0} {u : Received} {w : Work} (number : ℕ) (row : Subscriber → Work → Work)
@@ -235,104 +228,101 @@ of_link_chain {May} {u} {w} number row may done h =
     per_holds (λ (x : Work). Chain May u x) (subscriber_of_link number w) w _ (λ _. h)
     (λ s e. does s (link_is_current number w s e) (may s e) (done s) h)
 
-taken_plain_chain : {May : List ℕ → Type 0} {u : Received} {w : Work} (number : ℕ) (m : Mm) → AreDistinct w.amf.before.amf.subscribers
-    → ((s : Subscriber) → subscriber_of_link number w ≡ Some s → May s.supi) → MayNamed May (named_by m w) → Chain May u w
+taken_plain_chain : {May : List ℕ → Type 0} {u : Received} {w : Work} (number : ℕ) (m : Mm) → ((s : Subscriber) → subscriber_of_link number w ≡ Some s → May s.supi) → MayNamed May (named_by m w) → Chain May u w
     → Chain May u (taken_plain number m w)
 unfolding taken_plain service_refused
-taken_plain_chain number (RegistrationRequest registration ksi identity capability told) distinct may named h =
-    registration_chain number None registration ksi identity capability told distinct named h
-taken_plain_chain number (ServiceRequest ksi service_type identity told) distinct may named h = speaks number _ _ h
-taken_plain_chain number (IdentityResponse identity) distinct may named h = identity_chain number identity named h
-taken_plain_chain number (AuthenticationResponse res_star) distinct may named h =
+taken_plain_chain number (RegistrationRequest registration ksi identity capability told) may named h =
+    registration_chain number None registration ksi identity capability told named h
+taken_plain_chain number (ServiceRequest ksi service_type identity told) may named h = speaks number _ _ h
+taken_plain_chain number (IdentityResponse identity) may named h = identity_chain number identity named h
+taken_plain_chain number (AuthenticationResponse res_star) may named h =
     of_link_chain number (responded number res_star) may (λ s. responded_settles number res_star s refl here) h
-taken_plain_chain number (AuthenticationFailure cause auts) distinct may named h =
+taken_plain_chain number (AuthenticationFailure cause auts) may named h =
     of_link_chain number (authentication_failed number cause auts) may (λ s. failed_settles number cause auts s refl here) h
-taken_plain_chain number (SecurityModeReject cause) distinct may named h =
+taken_plain_chain number (SecurityModeReject cause) may named h =
     of_link_chain number (mode_rejected number) may (λ s. mode_rejected_settles number s refl here) h
-taken_plain_chain number DeregistrationAcceptUeTerminated distinct may named h =
+taken_plain_chain number DeregistrationAcceptUeTerminated may named h =
     of_link_chain number (deregistration_accepted number) may (λ s. deregistration_accepted_settles number s refl here) h
-taken_plain_chain number RegistrationComplete distinct may named h = h
-taken_plain_chain number (DeregistrationRequestUeOriginating switch_off ksi identity) distinct may named h = h
-taken_plain_chain number (SecurityModeComplete message) distinct may named h = h
-taken_plain_chain number (UlNasTransport container_type container psi request_type slice dnn) distinct may named h = h
-taken_plain_chain number (RegistrationAccept result guti tai_list nssai told t3512) distinct may named h = h
-taken_plain_chain number (RegistrationReject cause) distinct may named h = h
-taken_plain_chain number DeregistrationAcceptUeOriginating distinct may named h = h
-taken_plain_chain number (DeregistrationRequestUeTerminated switch_off cause) distinct may named h = h
-taken_plain_chain number (ServiceReject cause told) distinct may named h = h
-taken_plain_chain number (ServiceAccept told) distinct may named h = h
-taken_plain_chain number (ConfigurationUpdateCommand indication guti) distinct may named h = h
-taken_plain_chain number ConfigurationUpdateComplete distinct may named h = h
-taken_plain_chain number (AuthenticationRequest ksi abba rand autn) distinct may named h = h
-taken_plain_chain number AuthenticationReject distinct may named h = h
-taken_plain_chain number (IdentityRequest identity_type) distinct may named h = h
-taken_plain_chain number (SecurityModeCommand algs ksi capability information) distinct may named h = h
-taken_plain_chain number (FiveGmmStatus cause) distinct may named h = h
-taken_plain_chain number (DlNasTransport container_type container psi cause) distinct may named h = h
+taken_plain_chain number RegistrationComplete may named h = h
+taken_plain_chain number (DeregistrationRequestUeOriginating switch_off ksi identity) may named h = h
+taken_plain_chain number (SecurityModeComplete message) may named h = h
+taken_plain_chain number (UlNasTransport container_type container psi request_type slice dnn) may named h = h
+taken_plain_chain number (RegistrationAccept result guti tai_list nssai told t3512) may named h = h
+taken_plain_chain number (RegistrationReject cause) may named h = h
+taken_plain_chain number DeregistrationAcceptUeOriginating may named h = h
+taken_plain_chain number (DeregistrationRequestUeTerminated switch_off cause) may named h = h
+taken_plain_chain number (ServiceReject cause told) may named h = h
+taken_plain_chain number (ServiceAccept told) may named h = h
+taken_plain_chain number (ConfigurationUpdateCommand indication guti) may named h = h
+taken_plain_chain number ConfigurationUpdateComplete may named h = h
+taken_plain_chain number (AuthenticationRequest ksi abba rand autn) may named h = h
+taken_plain_chain number AuthenticationReject may named h = h
+taken_plain_chain number (IdentityRequest identity_type) may named h = h
+taken_plain_chain number (SecurityModeCommand algs ksi capability information) may named h = h
+taken_plain_chain number (FiveGmmStatus cause) may named h = h
+taken_plain_chain number (DlNasTransport container_type container psi cause) may named h = h
 
 plain_read_chain : {May : List ℕ → Type 0} {u : Received} {w : Work} (read : Result Mm MmRefusal) (number : ℕ) (octets : List ℕ)
-    → AreDistinct w.amf.before.amf.subscribers → ((s : Subscriber) → subscriber_of_link number w ≡ Some s → May s.supi)
+    → ((s : Subscriber) → subscriber_of_link number w ≡ Some s → May s.supi)
     → MayNamed May (named_in read w) → Chain May u w → Chain May u (plain_read read number octets w)
-plain_read_chain {May} {u} {w} (Ok m) number octets distinct may named h =
+plain_read_chain {May} {u} {w} (Ok m) number octets may named h =
     when_holds (λ (x : Work). Chain May u x) (permitted_amf (kind_of m)) _ w
-    (λ _. taken_plain_chain number m distinct may named h) (λ _. h)
-plain_read_chain (Err (refusals.Ignored at)) number octets distinct may named h = h
-plain_read_chain (Err (refusals.UnknownType n)) number octets distinct may named h = speaks number _ _ h
-plain_read_chain {May} {u} {w} (Err (refusals.Mandatory n at)) number octets distinct may named h =
+    (λ _. taken_plain_chain number m may named h) (λ _. h)
+plain_read_chain (Err (refusals.Ignored at)) number octets may named h = h
+plain_read_chain (Err (refusals.UnknownType n)) number octets may named h = speaks number _ _ h
+plain_read_chain {May} {u} {w} (Err (refusals.Mandatory n at)) number octets may named h =
     when_holds (λ (x : Work). Chain May u x) (is_permitted_type (type_of octets)) _ w (λ _. speaks number _ _ h) (λ _. h)
-plain_read_chain (Err refusals.Memory) number octets distinct may named h = h
+plain_read_chain (Err refusals.Memory) number octets may named h = h
 
 plain_chain : {May : List ℕ → Type 0} {u : Received} {w : Work} (number : ℕ) (octets : List ℕ)
-    → AreDistinct w.amf.before.amf.subscribers → ((s : Subscriber) → subscriber_of_link number w ≡ Some s → May s.supi)
+    → ((s : Subscriber) → subscriber_of_link number w ≡ Some s → May s.supi)
     → MayNamed May (named_in (mm_in octets) w) → Chain May u w → Chain May u (plain number octets w)
 unfolding plain
-plain_chain {May} {u} {w} number octets distinct may named h =
+plain_chain {May} {u} {w} number octets may named h =
     when_holds (λ (x : Work). Chain May u x) (link_of number w).secure w _ (λ _. h)
-    (λ _. plain_read_chain (mm_in octets) number octets distinct may named h)
+    (λ _. plain_read_chain (mm_in octets) number octets may named h)
 
 -- header type 1
 abbrev pub named_if : Option Mm → Work → Option Subscriber
 named_if None w = None
 named_if (Some m) w = named_by m w
 
-failed_request_chain : {May : List ℕ → Type 0} {u : Received} {w : Work} (number : ℕ) (m : Mm) → AreDistinct w.amf.before.amf.subscribers
-    → MayNamed May (named_by m w) → Chain May u w → Chain May u (failed_request number m w)
+failed_request_chain : {May : List ℕ → Type 0} {u : Received} {w : Work} (number : ℕ) (m : Mm) → MayNamed May (named_by m w) → Chain May u w → Chain May u (failed_request number m w)
 unfolding service_refused
-failed_request_chain number (RegistrationRequest registration ksi identity capability told) distinct named h =
-    registration_chain number None registration ksi identity capability told distinct named h
-failed_request_chain number (ServiceRequest ksi service_type identity told) distinct named h = speaks number _ _ h
-failed_request_chain number m distinct named h = h
+failed_request_chain number (RegistrationRequest registration ksi identity capability told) named h =
+    registration_chain number None registration ksi identity capability told named h
+failed_request_chain number (ServiceRequest ksi service_type identity told) named h = speaks number _ _ h
+failed_request_chain number m named h = h
 
-failed_chain : {May : List ℕ → Type 0} {u : Received} {w : Work} (number : ℕ) (m : Option Mm) → AreDistinct w.amf.before.amf.subscribers
-    → MayNamed May (named_if m w) → Chain May u w → Chain May u (failed number m w)
-failed_chain {May} {u} {w} number None distinct named h =
+failed_chain : {May : List ℕ → Type 0} {u : Received} {w : Work} (number : ℕ) (m : Option Mm) → MayNamed May (named_if m w) → Chain May u w → Chain May u (failed number m w)
+failed_chain {May} {u} {w} number None named h =
     when_holds (λ (x : Work). Chain May u x) (link_of number w).secure w _ (λ _. h)
     (λ _. per_holds (λ (x : Work). Chain May u x) None w (λ (y : Mm). failed_request number y w) (λ _. h) (λ y e. absurd (cc)))
-failed_chain {May} {u} {w} number (Some m) distinct named h =
+failed_chain {May} {u} {w} number (Some m) named h =
     when_holds (λ (x : Work). Chain May u x) (link_of number w).secure w _ (λ _. h)
     (λ _. per_holds (λ (x : Work). Chain May u x) (Some m) w (λ (y : Mm). failed_request number y w) (λ _. h)
     (λ y e.
     let one : m ≡ y = cc in
-    failed_request_chain number y distinct (subst (λ (z : Mm). MayNamed May (named_by z w)) one named) h))
+    failed_request_chain number y (subst (λ (z : Mm). MayNamed May (named_by z w)) one named) h))
 
-kept_for_is_current : (identity : Identity) (w : Work) (s : Subscriber) → AreDistinct (kept_now w) → kept_for identity w ≡ Some s → IsCurrent s w
-kept_for_is_current (identities.Guti g) w s distinct e = keeper_is_current g w s distinct e
-kept_for_is_current (identities.Stmsi t) w s distinct e = short_keeper_is_current t w s distinct e
-kept_for_is_current (identities.Suci x) w s distinct e = absurd (cc)
-kept_for_is_current (identities.Other octets) w s distinct e = absurd (cc)
+kept_for_is_current : (identity : Identity) (w : Work) (s : Subscriber) → kept_for identity w ≡ Some s → IsCurrent s w
+kept_for_is_current (identities.Guti g) w s e = keeper_is_current g w s e
+kept_for_is_current (identities.Stmsi t) w s e = short_keeper_is_current t w s e
+kept_for_is_current (identities.Suci x) w s e = absurd (cc)
+kept_for_is_current (identities.Other octets) w s e = absurd (cc)
 
-inside_is_current : (m : Option Mm) (w : Work) (s : Subscriber) → AreDistinct (kept_now w) → named_inside m w ≡ Some s → IsCurrent s w
-inside_is_current None w s distinct e = absurd (cc)
-inside_is_current (Some (RegistrationRequest registration ksi identity capability told)) w s distinct e = kept_for_is_current identity w s distinct e
-inside_is_current (Some (ServiceRequest ksi service_type identity told)) w s distinct e = kept_for_is_current identity w s distinct e
-inside_is_current (Some (DeregistrationRequestUeOriginating switch_off ksi identity)) w s distinct e = kept_for_is_current identity w s distinct e
-inside_is_current (Some message) w s distinct e = absurd (cc)
+inside_is_current : (m : Option Mm) (w : Work) (s : Subscriber) → named_inside m w ≡ Some s → IsCurrent s w
+inside_is_current None w s e = absurd (cc)
+inside_is_current (Some (RegistrationRequest registration ksi identity capability told)) w s e = kept_for_is_current identity w s e
+inside_is_current (Some (ServiceRequest ksi service_type identity told)) w s e = kept_for_is_current identity w s e
+inside_is_current (Some (DeregistrationRequestUeOriginating switch_off ksi identity)) w s e = kept_for_is_current identity w s e
+inside_is_current (Some message) w s e = absurd (cc)
 
-sender_is_current : (number : ℕ) (m : Option Mm) (w : Work) (s : Subscriber) → AreDistinct (kept_now w) → sender number m w ≡ Some s → IsCurrent s w
-sender_is_current number m w s distinct =
+sender_is_current : (number : ℕ) (m : Option Mm) (w : Work) (s : Subscriber) → sender number m w ≡ Some s → IsCurrent s w
+sender_is_current number m w s =
     per_holds (λ (x : Option Subscriber). x ≡ Some s → IsCurrent s w) (named_inside m w) (subscriber_of_link number w) _
     (λ _ e. link_is_current number w s e)
-    (λ y is e. let one : y ≡ s = cc in inside_is_current m w s distinct (is ∙ ap (λ (z : Subscriber). Some z) one))
+    (λ y is e. let one : y ≡ s = cc in inside_is_current m w s (is ∙ ap (λ (z : Subscriber). Some z) one))
 
 -- those that may have a row where octets come up a link
 pub record MayReceive (May : List ℕ → Type 0) (u : Received) : Type 0 where
@@ -342,25 +332,23 @@ pub record MayReceive (May : List ℕ → Type 0) (u : Received) : Type 0 where
   pub inside : MayNamed May (named_if (message_of (mm_in (drop 7 u.octets))) u.first)
   pub sent : (s : Subscriber) → sender u.number (message_of (mm_in (drop 7 u.octets))) u.first ≡ Some s → MayPass May u.number u.octets s u.first
 
-integrity_chain : {May : List ℕ → Type 0} (u : Received) → AreDistinct u.first.amf.before.amf.subscribers
-    → MayReceive May u → Chain May u (integrity_protected u.number u.octets u.first)
+integrity_chain : {May : List ℕ → Type 0} (u : Received) → MayReceive May u → Chain May u (integrity_protected u.number u.octets u.first)
 unfolding integrity_protected
-integrity_chain u distinct may =
+integrity_chain u may =
     in_use_chain u (sender u.number (message_of (mm_in (drop 7 u.octets))) u.first)
-    (failed u.number (message_of (mm_in (drop 7 u.octets))) u.first) distinct
-    (λ s e. sender_is_current u.number (message_of (mm_in (drop 7 u.octets))) u.first s (distinct_now u.first distinct) e) may.sent
-    (failed_chain u.number (message_of (mm_in (drop 7 u.octets))) distinct may.inside nothing)
+    (failed u.number (message_of (mm_in (drop 7 u.octets))) u.first)
+    (λ s e. sender_is_current u.number (message_of (mm_in (drop 7 u.octets))) u.first s e) may.sent
+    (failed_chain u.number (message_of (mm_in (drop 7 u.octets))) may.inside nothing)
 
-pub received_chain : {May : List ℕ → Type 0} (u : Received) → AreDistinct u.first.amf.before.amf.subscribers
-    → MayReceive May u → Chain May u (received u.number u.octets u.first)
+pub received_chain : {May : List ℕ → Type 0} (u : Received) → MayReceive May u → Chain May u (received u.number u.octets u.first)
 unfolding received
-received_chain {May} u distinct may =
+received_chain {May} u may =
     when_holds (λ (x : Work). Chain May u x) (not (is_mm u.octets) || nat_lt 4096 (length u.octets)) u.first _ (λ _. nothing)
     (λ _. when_holds (λ (x : Work). Chain May u x) (header_of u.octets == 0) _ _
-    (λ _. plain_chain u.number u.octets distinct may.linked may.plain nothing)
+    (λ _. plain_chain u.number u.octets may.linked may.plain nothing)
     (λ _. when_holds (λ (x : Work). Chain May u x) (header_of u.octets == 1) _ _
-    (λ _. integrity_chain u distinct may)
+    (λ _. integrity_chain u may)
     (λ _. when_holds (λ (x : Work). Chain May u x) (header_of u.octets == 2) _ _
-    (λ _. ciphered_chain u distinct may.passing)
+    (λ _. ciphered_chain u may.passing)
     (λ _. when_holds (λ (x : Work). Chain May u x) (header_of u.octets == 4) _ u.first
-    (λ _. new_context_chain u distinct may.passing) (λ _. nothing)))))
+    (λ _. new_context_chain u may.passing) (λ _. nothing)))))

@@ -22,10 +22,10 @@ use Rattle.amf_laws.proofs.Chains.{Chain, IsChecked, IsCurrent, Received, kept_n
 use Rattle.amf_laws.proofs.Chains.Chain.{nothing, speaks, waits, passes, does}
 use Rattle.amf_laws.proofs.Moves.{Beginning, Moves, Settled, begins}
 use Rattle.amf_laws.proofs.Moves.Moves.{here, said, asked, starts, stops, puts, links, homes, numbers}
-use Rattle.amf_laws.proofs.Records.{are_equal, equals_itself, kept_by_now, other_is_found, own_is_found}
+use Rattle.amf_laws.proofs.Records.{are_equal, changed_among, equals_itself, kept_by_now, other_is_found, own_is_found}
 use Rattle.amf_laws.proofs.FramedFit.{commanded_runs}
 use Rattle.amf_laws.proofs.Told.{acted_of, acts_onto, all_acted}
-use Rattle.amf_laws.specs.Timers.{Running, running_for, running_in, with_timer}
+use Rattle.amf_laws.specs.Timers.{AreDistinct, Running, running_for, running_in, with_timer}
 
 -- what was kept before the step stays
 pub before_stays : {b : Beginning} {p q : Running} {w : Work} → Moves b p q w → w.amf.before ≡ b.first.amf.before
@@ -170,30 +170,33 @@ checked_is_of number octets s p (inl e) = in_use_is_of number octets s p e
 checked_is_of number octets s p (inr e) = pending_is_of number octets s p e
 
 -- the SUPI of a current record was kept before
-pub current_was_kept : {s : Subscriber} {w : Work} → IsCurrent s w → is_some (subscriber_in s.supi w.amf.before.amf.subscribers) ≡ true
-current_was_kept {s} {w} h = kept_by_now s.supi w.amf.changes.subscribers w.amf.before.amf.subscribers s h.is
+pub current_was_kept : (s : Subscriber) (w : Work) → subscriber_in s.supi (kept_now w) ≡ Some s
+    → is_some (subscriber_in s.supi w.amf.before.amf.subscribers) ≡ true
+current_was_kept s w h = kept_by_now s.supi w.amf.changes.subscribers w.amf.before.amf.subscribers s h
 
 -- what passed is current once it is noted
 pub noted_is_current : {s : Subscriber} {w : Work} (number : ℕ) (p : Passage) → IsOf s p → IsCurrent s w
     → IsCurrent p.check.subscriber (noted number p.check w)
 unfolding put put_link
 noted_is_current {s} {w} number p of h = record {
-  is = own_is_found _ _ p.check.subscriber p.check.subscriber.supi (equals_itself p.check.subscriber.supi)
-      (ap (λ (y : List ℕ). is_some (subscriber_in y w.amf.before.amf.subscribers)) of.supi ∙ current_was_kept h);
+  is = λ distinct. own_is_found _ _ p.check.subscriber p.check.subscriber.supi (equals_itself p.check.subscriber.supi)
+  (ap (λ (y : List ℕ). is_some (subscriber_in y w.amf.before.amf.subscribers)) of.supi ∙ current_was_kept s w (h.is distinct));
+  among = changed_among w.amf.changes.subscribers w.amf.before.amf.subscribers s p.check.subscriber of.supi h.among;
 }
 
 -- a record that is put with the same timer
 same_timer : (x : List ℕ) (w : Work) (old new : Subscriber) (own : Bool) → bytes_eq new.supi x ≡ own → new.supi ≡ old.supi
-    → running_in new.procedure ≡ running_in old.procedure → IsCurrent old w
+    → running_in new.procedure ≡ running_in old.procedure → subscriber_in old.supi (kept_now w) ≡ Some old
     → running_for (subscriber_in x (kept_now (put new w))) ≡ running_for (subscriber_in x (kept_now w))
 unfolding put
 same_timer x w old new true own e runs h =
     let is_x : old.supi ≡ x = sym e ∙ are_equal new.supi x own in
-    let at_x : subscriber_in x (kept_now w) ≡ Some old = subst (λ (y : List ℕ). subscriber_in y (kept_now w) ≡ Some old) is_x h.is in
+    let at_x : subscriber_in x (kept_now w) ≡ Some old = subst (λ (y : List ℕ). subscriber_in y (kept_now w) ≡ Some old) is_x h in
     ap running_for (own_is_found _ _ new x own (kept_by_now x _ _ old at_x)) ∙ runs ∙ sym (ap running_for at_x)
 same_timer x w old new false own e runs h = ap running_for (other_is_found _ _ new x own)
 
-noted_fits : (x : List ℕ) (r : Running) {s : Subscriber} {w : Work} (number : ℕ) (p : Passage) → IsOf s p → IsCurrent s w → Fits x r w
+noted_fits : (x : List ℕ) (r : Running) {s : Subscriber} {w : Work} (number : ℕ) (p : Passage) → IsOf s p
+    → subscriber_in s.supi (kept_now w) ≡ Some s → Fits x r w
     → Fits x r (noted number p.check w)
 unfolding put put_link
 noted_fits x r {s} {w} number p of is h = record {
@@ -202,10 +205,11 @@ noted_fits x r {s} {w} number p of is h = record {
 }
 
 -- a row that begins where all fits
-current_at : (x : List ℕ) (s : Subscriber) (w : Work) → bytes_eq s.supi x ≡ true → IsCurrent s w → subscriber_in x (kept_now w) ≡ Some s
-current_at x s w own h = subst (λ (y : List ℕ). subscriber_in y (kept_now w) ≡ Some s) (are_equal s.supi x own) h.is
+current_at : (x : List ℕ) (s : Subscriber) (w : Work) → bytes_eq s.supi x ≡ true
+    → subscriber_in s.supi (kept_now w) ≡ Some s → subscriber_in x (kept_now w) ≡ Some s
+current_at x s w own h = subst (λ (y : List ℕ). subscriber_in y (kept_now w) ≡ Some s) (are_equal s.supi x own) h
 
-pub fit_begins : (x : List ℕ) (r : Running) (s : Subscriber) (w : Work) → IsCurrent s w → Fits x r w → IsBegun x r (begins s w)
+pub fit_begins : (x : List ℕ) (r : Running) (s : Subscriber) (w : Work) → subscriber_in s.supi (kept_now w) ≡ Some s → Fits x r w → IsBegun x r (begins s w)
 fit_begins x r s w is h = record {
   own_told = λ own. h.fit ∙ ap running_for (current_at x s w own is);
   own_opened = λ own. ap running_for (current_at x s w own is);
@@ -214,15 +218,6 @@ fit_begins x r s w is h = record {
 }
 
 -- a chain of rows
-pub chain_fits : (x : List ℕ) (r : Running) {May : List ℕ → Type 0} {u : Received} {w : Work} → Fits x r u.first → Chain May u w → Fits x r w
-unfolding put_link
-chain_fits x r begin nothing = begin
-chain_fits x r begin (speaks number protection message h) = record { fit = rw acts_onto ((chain_fits x r begin h).fit) }
-chain_fits x r begin (waits number supi waiting h) = record { fit = (chain_fits x r begin h).fit }
-chain_fits x r {May} {u} begin (passes s p is may checked) =
-    noted_fits x r u.number p (checked_is_of u.number u.octets s p checked) is begin
-chain_fits x r begin (does s is may done h) = settled_fits x r (fit_begins x r s _ is (chain_fits x r begin h)) done
-
 pub chain_before : {May : List ℕ → Type 0} {u : Received} {w : Work} → Chain May u w → w.amf.before ≡ u.first.amf.before
 unfolding put put_link
 chain_before nothing = refl
@@ -230,3 +225,17 @@ chain_before (speaks number protection message h) = chain_before h
 chain_before (waits number supi waiting h) = chain_before h
 chain_before (passes s p is may checked) = refl
 chain_before (does s is may done h) = before_stays done.moves ∙ chain_before h
+
+pub chain_fits : (x : List ℕ) (r : Running) {May : List ℕ → Type 0} {u : Received} {w : Work} → AreDistinct u.first.amf.before.amf.subscribers
+    → Fits x r u.first → Chain May u w → Fits x r w
+unfolding put_link
+chain_fits x r distinct begin nothing = begin
+chain_fits x r distinct begin (speaks number protection message h) =
+    record { fit = rw acts_onto ((chain_fits x r distinct begin h).fit) }
+chain_fits x r distinct begin (waits number supi waiting h) = record { fit = (chain_fits x r distinct begin h).fit }
+chain_fits x r {May} {u} distinct begin (passes s p is may checked) =
+    noted_fits x r u.number p (checked_is_of u.number u.octets s p checked) (is.is distinct) begin
+chain_fits x r distinct begin (does s is may done h) =
+    settled_fits x r
+    (fit_begins x r s _ (is.is (subst (λ (y : BeforeState). AreDistinct y.amf.subscribers) (sym (chain_before h)) distinct))
+    (chain_fits x r distinct begin h)) done

@@ -1,5 +1,5 @@
 -- Records by their keys, as changes leave them.
-use Rattle.std.proofs.Common.{◌≡◌, refl, sym, ap, ◌∙◌, subst, ℕ, ◌==◌, Bool, true, false, List, [], ◌∷◌, Option, Some, None, if◌then◌else◌, arith}
+use Rattle.std.proofs.Common.{◌≡◌, refl, sym, ap, ◌∙◌, subst, inl, inr, ℕ, ◌==◌, Bool, true, false, List, [], ◌∷◌, Option, Some, None, if◌then◌else◌, arith}
 use Rattle.std.specs.Prelude.{is_some, option_map}
 use Rattle.std.specs.Str.{bytes_eq}
 use Rattle.std.proofs.lemmas.Slice.Eq.{bytes_eq-Decides}
@@ -9,6 +9,7 @@ use Rattle.amf_core.specs.State.{has_number, has_supi, is_same_link, is_same_sub
 use Rattle.amf_core.specs.declared.link.Link.{Link}
 use Rattle.amf_core.specs.declared.subscriber.Subscriber.{Subscriber}
 use Rattle.amf_laws.specs.Timers.{AreDistinct}
+use Rattle.amf_laws.specs.Passing.{IsAmong}
 
 -- SUPIs that are equal octet for octet are equal
 pub are_equal : (x y : List ℕ) → bytes_eq x y ≡ true → x ≡ y
@@ -151,3 +152,24 @@ pub found_by_supi : (is : Subscriber → Bool) (subscribers : List Subscriber) (
     → found is subscribers ≡ Some s → subscriber_in s.supi subscribers ≡ Some s
 found_by_supi is [] s h e = absurd (cc)
 found_by_supi is (x ∷ subscribers) s h e = by_supi is x subscribers s (is x) h.0 (found_by_supi is subscribers s h.1) e
+
+-- what is found is among them
+among_first : (is : Subscriber → Bool) (x : Subscriber) (subscribers : List Subscriber) (s : Subscriber) (here : Bool)
+    → (found is subscribers ≡ Some s → IsAmong s subscribers) → (if here then Some x else found is subscribers) ≡ Some s
+    → IsAmong s (x ∷ subscribers)
+among_first is x subscribers s true rest e = inl (cc)
+among_first is x subscribers s false rest e = inr (rest e)
+
+pub found_among : (is : Subscriber → Bool) (subscribers : List Subscriber) (s : Subscriber) → found is subscribers ≡ Some s
+    → IsAmong s subscribers
+found_among is [] s e = absurd (cc)
+found_among is (x ∷ subscribers) s e = among_first is x subscribers s (is x) (found_among is subscribers s) e
+
+-- and what changes of one that is among them is among them by now
+pub changed_among : (changes subscribers : List Subscriber) (old new : Subscriber) → new.supi ≡ old.supi
+    → IsAmong old (all_current is_same_subscriber changes subscribers) → IsAmong new (all_current is_same_subscriber (new ∷ changes) subscribers)
+changed_among changes [] old new e h = absurd h
+changed_among changes (x ∷ subscribers) old new e (inl is) =
+    let same : x.supi ≡ new.supi = sym (supi_stays changes x) ∙ ap (λ (y : Subscriber). y.supi) is ∙ sym e in
+    inl (changed_first changes new x true (ap (λ (y : List ℕ). bytes_eq y new.supi) same ∙ equals_itself new.supi))
+changed_among changes (x ∷ subscribers) old new e (inr h) = inr (changed_among changes subscribers old new e h)

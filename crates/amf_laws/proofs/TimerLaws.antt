@@ -23,7 +23,7 @@ use Rattle.amf_core.specs.declared.subscriber.Subscriber.{Subscriber}
 use Rattle.amf_core.specs.declared.work.Work.{Work}
 use Rattle.amf_laws.proofs.AnswerRows.{brought_down_moves}
 use Rattle.amf_laws.proofs.Branching.{per_holds, when_holds}
-use Rattle.amf_laws.proofs.Chains.{Chain, IsCurrent, Received, found_is_current, kept_now}
+use Rattle.amf_laws.proofs.Chains.{Chain, IsCurrent, Received, found_before, kept_now}
 use Rattle.amf_laws.proofs.Chains.Chain.{nothing}
 use Rattle.amf_laws.proofs.DeliveryRows.{MayPass, MayReceive, received_chain}
 use Rattle.amf_laws.proofs.EventRows.{SettledBy, authenticated_settles, expired_settles, fenced_settles, left_settles, lost_settles, sessions_settle}
@@ -81,7 +81,7 @@ of_supi_left : (x : List ℕ) (r : Running) (a : AmfState) (supi : List ℕ) (ro
     → Left x r a w → ((s : Subscriber) → Settled (begins s w) (row s w)) → Left x r a (of_supi supi row w)
 of_supi_left x r a supi row w h done =
     per_holds (λ (y : Work). Left x r a y) (subscriber supi w) w _ (λ _. h)
-    (λ s e. settled_left a h.before (fit_begins x r s w (found_is_current supi w s e) h.fits) (done s))
+    (λ s e. settled_left a h.before (fit_begins x r s w (found_before supi w s e) h.fits) (done s))
 
 -- the same of a command
 settled_left_by : {x : List ℕ} {r : Running} {b : Beginning} (a : AmfState) (done : Result Work AmfRefusal) → b.first.amf.before.amf ≡ a
@@ -94,7 +94,7 @@ of_supi_left_by : (x : List ℕ) (r : Running) (a : AmfState) (supi : List ℕ) 
     → LeftBy x r a (per (subscriber supi w) (Err refusal) (λ (s : Subscriber). row s w))
 of_supi_left_by x r a supi row refusal w h done =
     per_holds (λ (y : Result Work AmfRefusal). LeftBy x r a y) (subscriber supi w) (Err refusal) _ (λ _. tt)
-    (λ s e. settled_left_by a (row s w) h.before (fit_begins x r s w (found_is_current supi w s e) h.fits) (done s))
+    (λ s e. settled_left_by a (row s w) h.before (fit_begins x r s w (found_before supi w s e) h.fits) (done s))
 
 -- octets that come up
 any_may : (u : Received) → MayReceive (λ (x : List ℕ). Unit {0}) u
@@ -119,8 +119,8 @@ received_left x r a number octets w distinct h =
     let here_distinct : AreDistinct w.amf.before.amf.subscribers =
     subst (λ (y : AmfState). AreDistinct y.subscribers) (sym h.before) distinct in
     let u : Received = record { number = number; octets = octets; first = w } in
-    let chain : Chain (λ (y : List ℕ). Unit {0}) u (received number octets w) = received_chain u here_distinct (any_may u) in
-    record { fits = chain_fits x r h.fits chain; before = ap (λ (y : BeforeState). y.amf) (chain_before chain) ∙ h.before }
+    let chain : Chain (λ (y : List ℕ). Unit {0}) u (received number octets w) = received_chain u (any_may u) in
+    record { fits = chain_fits x r here_distinct h.fits chain; before = ap (λ (y : BeforeState). y.amf) (chain_before chain) ∙ h.before }
 
 -- a timer that expires
 expired_begins : (x : List ℕ) (running : Running) (supi : List ℕ) (id : TimerId) (s : Subscriber) (w : Work) (own : Bool) → bytes_eq supi x ≡ own
