@@ -180,7 +180,7 @@ pub noted_is_current : {s : Subscriber} {w : Work} (number : ℕ) (p : Passage) 
 unfolding put put_link
 noted_is_current {s} {w} number p of h = record {
   is = λ distinct. own_is_found _ _ p.check.subscriber p.check.subscriber.supi (equals_itself p.check.subscriber.supi)
-  (ap (λ (y : List ℕ). is_some (subscriber_in y w.amf.before.amf.subscribers)) of.supi ∙ current_was_kept s w (h.is distinct));
+      (ap (λ (y : List ℕ). is_some (subscriber_in y w.amf.before.amf.subscribers)) of.supi ∙ current_was_kept s w (h.is distinct));
   among = changed_among w.amf.changes.subscribers w.amf.before.amf.subscribers s p.check.subscriber of.supi h.among;
 }
 

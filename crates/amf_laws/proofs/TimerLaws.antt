@@ -97,7 +97,7 @@ of_supi_left_by x r a supi row refusal w h done =
     (λ s e. settled_left_by a (row s w) h.before (fit_begins x r s w (found_before supi w s e) h.fits) (done s))
 
 -- octets that come up
-any_may : (u : Received) → MayReceive (λ (x : List ℕ). Unit {0}) u
+pub any_may : (u : Received) → MayReceive (λ (x : List ℕ). Unit {0}) u
 any_may u = record {
   linked = λ _ _. tt;
   passing = λ _ _. record { itself = λ _ _. tt; named = λ _ _ _ _. tt };
