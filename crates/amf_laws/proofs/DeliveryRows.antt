@@ -318,7 +318,7 @@ inside_is_current (Some (ServiceRequest ksi service_type identity told)) w s e =
 inside_is_current (Some (DeregistrationRequestUeOriginating switch_off ksi identity)) w s e = kept_for_is_current identity w s e
 inside_is_current (Some message) w s e = absurd (cc)
 
-sender_is_current : (number : ℕ) (m : Option Mm) (w : Work) (s : Subscriber) → sender number m w ≡ Some s → IsCurrent s w
+pub sender_is_current : (number : ℕ) (m : Option Mm) (w : Work) (s : Subscriber) → sender number m w ≡ Some s → IsCurrent s w
 sender_is_current number m w s =
     per_holds (λ (x : Option Subscriber). x ≡ Some s → IsCurrent s w) (named_inside m w) (subscriber_of_link number w) _
     (λ _ e. link_is_current number w s e)

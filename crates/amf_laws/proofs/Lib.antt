@@ -14,3 +14,4 @@ pub mod Records
 pub mod RegistrationRows
 pub mod TimerLaws
 pub mod Told
+pub mod UncheckedLaws

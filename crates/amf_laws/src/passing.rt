@@ -1,6 +1,6 @@
 //! What passes a check, and what octets do that pass none.
 ghost use Rattle.std.specs.Prelude.{true};
-ghost use Rattle.amf_laws.specs.Passing.{OpensWherePassing, SecuresWherePassing, Uplinks};
+ghost use Rattle.amf_laws.specs.Passing.{FailedRequestsRejected, OpensWherePassing, SecuresWherePassing, UncheckedDoNothing, Uplinks};
 
 use amf_core::Amf;
 use milenage::Home;
@@ -32,4 +32,31 @@ pub fn fresh_uplink_clears_the_mark(
     octets: &[u8],
 )
     ensures { SecuresWherePassing link (Uplinks amf.now home.now now rand.now link true octets.now) }
+{}
+
+/// On a link on which messages were exchanged securely, octets that pass no check and aren't the first of a connection change nothing,
+/// and are answered by nothing (TS 24.501 clause 4.4.4.3).
+pub fn unchecked_octets_on_a_secure_link_do_nothing(
+    amf: &Amf,
+    home: &Home,
+    now: Moment,
+    rand: &[u8; 16],
+    link: u16,
+    octets: &[u8],
+)
+    ensures { UncheckedDoNothing amf.now home.now now rand.now link octets.now }
+{}
+
+/// On a link that isn't secure a SERVICE REQUEST that passes no check, plain or in a frame of header type 1, is answered by SERVICE REJECT
+/// with cause 9, and changes no record of a subscriber (TS 24.501 clauses 4.4.4.3 and 5.6.1.5).
+pub fn failed_service_request_changes_nothing(
+    amf: &Amf,
+    home: &Home,
+    now: Moment,
+    rand: &[u8; 16],
+    link: u16,
+    fresh: bool,
+    octets: &[u8],
+)
+    ensures { FailedRequestsRejected amf.now home.now now rand.now link fresh octets.now }
 {}
