@@ -15,7 +15,7 @@ use Rattle.amf_core.specs.declared.requests.Request.{Request}
 use Rattle.amf_core.specs.declared.subscriber.Subscriber.{Subscriber}
 use Rattle.amf_core.specs.declared.work.Work.{Work}
 use Rattle.amf_laws.proofs.Branching.{per_holds}
-use Rattle.amf_laws.proofs.Moves.{Settled, begins}
+use Rattle.amf_laws.proofs.Moves.{MayProtect, Settled, begins}
 use Rattle.amf_laws.proofs.Records.{found_among, found_by_supi, found_has, stay_distinct}
 use Rattle.amf_laws.specs.Passing.{IsAmong}
 use Rattle.amf_laws.specs.Timers.{AreDistinct}
@@ -42,12 +42,13 @@ pub record Received : Type 0 where
 -- What was reached by rows of subscribers that may have one. Octets pass one check at most, before any row.
 pub data Chain (May : List ℕ → Type 0) (u : Received) : Work → Type 0 where
   nothing : Chain May u u.first
-  speaks : {w : Work} (number : ℕ) (protection : Protection) (message : Mm) → Chain May u w → Chain May u (say number protection message w)
+  speaks : {w : Work} (number : ℕ) (protection : Protection) (message : Mm) → MayProtect May protection → Chain May u w
+      → Chain May u (say number protection message w)
   waits : {w : Work} (number : ℕ) (supi : Option (List ℕ)) (waiting : Option Request) → Chain May u w
       → Chain May u (put_link (record (link_of number w) { supi = supi; waiting = waiting }) w)
   passes : (s : Subscriber) (p : Passage) → IsCurrent s u.first → May s.supi → IsChecked u.number u.octets s p
       → Chain May u (noted u.number p.check u.first)
-  does : {w new : Work} (s : Subscriber) → IsCurrent s w → May s.supi → Settled (begins s w) new → Chain May u w → Chain May u new
+  does : {w new : Work} (s : Subscriber) → IsCurrent s w → May s.supi → Settled May (begins s w) new → Chain May u w → Chain May u new
 
 -- still no SUPI twice
 pub distinct_now : (w : Work) → AreDistinct w.amf.before.amf.subscribers → AreDistinct (kept_now w)

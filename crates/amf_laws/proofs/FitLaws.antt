@@ -28,10 +28,10 @@ use Rattle.amf_laws.proofs.Told.{acted_of, acts_onto, all_acted}
 use Rattle.amf_laws.specs.Timers.{AreDistinct, Running, running_for, running_in, with_timer}
 
 -- what was kept before the step stays
-pub before_stays : {b : Beginning} {p q : Running} {w : Work} → Moves b p q w → w.amf.before ≡ b.first.amf.before
+pub before_stays : {May : List ℕ → Type 0} {b : Beginning} {p q : Running} {w : Work} → Moves May b p q w → w.amf.before ≡ b.first.amf.before
 unfolding put put_link
 before_stays here = refl
-before_stays (said number protection message h) = before_stays h
+before_stays (said number protection message may h) = before_stays h
 before_stays (asked call s h) = before_stays h
 before_stays (starts id s e h) = before_stays h
 before_stays (stops id s e h) = before_stays h
@@ -41,48 +41,48 @@ before_stays (homes home h) = before_stays h
 before_stays (numbers h) = before_stays h
 
 -- the record of any other SUPI stays
-pub other_stays : (x : List ℕ) {b : Beginning} {p q : Running} {w : Work} → bytes_eq b.supi x ≡ false → Moves b p q w
+pub other_stays : (x : List ℕ) {May : List ℕ → Type 0} {b : Beginning} {p q : Running} {w : Work} → bytes_eq b.supi x ≡ false → Moves May b p q w
     → subscriber_in x (kept_now w) ≡ subscriber_in x (kept_now b.first)
 unfolding put put_link
 other_stays x other here = refl
-other_stays x other (said number protection message h) = other_stays x other h
+other_stays x other (said number protection message may h) = other_stays x other h
 other_stays x other (asked call s h) = other_stays x other h
 other_stays x other (starts id s e h) = other_stays x other h
 other_stays x other (stops id s e h) = other_stays x other h
 other_stays x other (puts s e h) =
-    other_is_found _ _ s x (ap (λ (y : List ℕ). bytes_eq y x) e ∙ other) ∙ other_stays x other h
+    other_is_found _ _ s x (ap (λ (y : List ℕ). bytes_eq y x) e.0 ∙ other) ∙ other_stays x other h
 other_stays x other (links number supi waiting h) = other_stays x other h
 other_stays x other (homes home h) = other_stays x other h
 other_stays x other (numbers h) = other_stays x other h
 
 -- and so do its timers
-pub other_told : (x : List ℕ) (r : Running) {b : Beginning} {p q : Running} {w : Work} → bytes_eq b.supi x ≡ false → Moves b p q w
+pub other_told : (x : List ℕ) (r : Running) {May : List ℕ → Type 0} {b : Beginning} {p q : Running} {w : Work} → bytes_eq b.supi x ≡ false → Moves May b p q w
     → all_acted x w.acts r ≡ all_acted x b.first.acts r
 unfolding put put_link
 other_told x r other here = refl
-other_told x r other (said number protection message h) = rw acts_onto (other_told x r other h)
+other_told x r other (said number protection message may h) = rw acts_onto (other_told x r other h)
 other_told x r other (asked call s h) = rw acts_onto (other_told x r other h)
 other_told x r other (starts id s e h) =
-    let not_it : bytes_eq s.supi x ≡ false = ap (λ (y : List ℕ). bytes_eq y x) e ∙ other in rw (acts_onto, not_it) (other_told x r other h)
+    let not_it : bytes_eq s.supi x ≡ false = ap (λ (y : List ℕ). bytes_eq y x) e.0 ∙ other in rw (acts_onto, not_it) (other_told x r other h)
 other_told x r other (stops id s e h) =
-    let not_it : bytes_eq s.supi x ≡ false = ap (λ (y : List ℕ). bytes_eq y x) e ∙ other in rw (acts_onto, not_it) (other_told x r other h)
+    let not_it : bytes_eq s.supi x ≡ false = ap (λ (y : List ℕ). bytes_eq y x) e.0 ∙ other in rw (acts_onto, not_it) (other_told x r other h)
 other_told x r other (puts s e h) = other_told x r other h
 other_told x r other (links number supi waiting h) = other_told x r other h
 other_told x r other (homes home h) = other_told x r other h
 other_told x r other (numbers h) = other_told x r other h
 
 -- the timers of the SUPI itself, by what was told
-pub own_told : (x : List ℕ) (r : Running) {b : Beginning} {p q : Running} {w : Work} → bytes_eq b.supi x ≡ true
-    → all_acted x b.first.acts r ≡ b.told → Moves b p q w → all_acted x w.acts r ≡ p
+pub own_told : (x : List ℕ) (r : Running) {May : List ℕ → Type 0} {b : Beginning} {p q : Running} {w : Work} → bytes_eq b.supi x ≡ true
+    → all_acted x b.first.acts r ≡ b.told → Moves May b p q w → all_acted x w.acts r ≡ p
 unfolding put put_link
 own_told x r own begin here = begin
-own_told x r own begin (said number protection message h) = rw acts_onto (own_told x r own begin h)
+own_told x r own begin (said number protection message may h) = rw acts_onto (own_told x r own begin h)
 own_told x r own begin (asked call s h) = rw acts_onto (own_told x r own begin h)
 own_told x r own begin (starts id s e h) =
-    let it : bytes_eq s.supi x ≡ true = ap (λ (y : List ℕ). bytes_eq y x) e ∙ own in
+    let it : bytes_eq s.supi x ≡ true = ap (λ (y : List ℕ). bytes_eq y x) e.0 ∙ own in
     rw (acts_onto, it) (ap (λ (y : Running). with_timer id true y) (own_told x r own begin h))
 own_told x r own begin (stops id s e h) =
-    let it : bytes_eq s.supi x ≡ true = ap (λ (y : List ℕ). bytes_eq y x) e ∙ own in
+    let it : bytes_eq s.supi x ≡ true = ap (λ (y : List ℕ). bytes_eq y x) e.0 ∙ own in
     rw (acts_onto, it) (ap (λ (y : Running). with_timer id false y) (own_told x r own begin h))
 own_told x r own begin (puts s e h) = own_told x r own begin h
 own_told x r own begin (links number supi waiting h) = own_told x r own begin h
@@ -90,18 +90,18 @@ own_told x r own begin (homes home h) = own_told x r own begin h
 own_told x r own begin (numbers h) = own_told x r own begin h
 
 -- and by its procedure
-pub own_opened : (x : List ℕ) {b : Beginning} {p q : Running} {w : Work} → bytes_eq b.supi x ≡ true
+pub own_opened : (x : List ℕ) {May : List ℕ → Type 0} {b : Beginning} {p q : Running} {w : Work} → bytes_eq b.supi x ≡ true
     → is_some (subscriber_in x b.first.amf.before.amf.subscribers) ≡ true
-    → running_for (subscriber_in x (kept_now b.first)) ≡ b.opened → Moves b p q w → running_for (subscriber_in x (kept_now w)) ≡ q
+    → running_for (subscriber_in x (kept_now b.first)) ≡ b.opened → Moves May b p q w → running_for (subscriber_in x (kept_now w)) ≡ q
 unfolding put put_link
 own_opened x own kept begin here = begin
-own_opened x own kept begin (said number protection message h) = own_opened x own kept begin h
+own_opened x own kept begin (said number protection message may h) = own_opened x own kept begin h
 own_opened x own kept begin (asked call s h) = own_opened x own kept begin h
 own_opened x own kept begin (starts id s e h) = own_opened x own kept begin h
 own_opened x own kept begin (stops id s e h) = own_opened x own kept begin h
 own_opened x own kept begin (puts s e h) =
     ap running_for
-    (own_is_found _ _ s x (ap (λ (y : List ℕ). bytes_eq y x) e ∙ own)
+    (own_is_found _ _ s x (ap (λ (y : List ℕ). bytes_eq y x) e.0 ∙ own)
     (ap (λ (y : BeforeState). is_some (subscriber_in x y.amf.subscribers)) (before_stays h) ∙ kept))
 own_opened x own kept begin (links number supi waiting h) = own_opened x own kept begin h
 own_opened x own kept begin (homes home h) = own_opened x own kept begin h
@@ -118,15 +118,15 @@ pub record IsBegun (x : List ℕ) (r : Running) (b : Beginning) : Type 0 where
   pub kept : bytes_eq b.supi x ≡ true → is_some (subscriber_in x b.first.amf.before.amf.subscribers) ≡ true
   pub other : bytes_eq b.supi x ≡ false → all_acted x b.first.acts r ≡ running_for (subscriber_in x (kept_now b.first))
 
-own_or_other : (x : List ℕ) (r : Running) {b : Beginning} {w : Work} (own : Bool) → bytes_eq b.supi x ≡ own → IsBegun x r b → Settled b w
+own_or_other : (x : List ℕ) (r : Running) {May : List ℕ → Type 0} {b : Beginning} {w : Work} (own : Bool) → bytes_eq b.supi x ≡ own → IsBegun x r b → Settled May b w
     → all_acted x w.acts r ≡ running_for (subscriber_in x (kept_now w))
 own_or_other x r true own h done =
     own_told x r own (h.own_told own) done.moves ∙ sym (own_opened x own (h.kept own) (h.own_opened own) done.moves)
 own_or_other x r false other h done =
     other_told x r other done.moves ∙ h.other other ∙ sym (ap running_for (other_stays x other done.moves))
 
-pub settled_fits : (x : List ℕ) (r : Running) {b : Beginning} {w : Work} → IsBegun x r b → Settled b w → Fits x r w
-settled_fits x r {b} {w} h done = record { fit = own_or_other x r (bytes_eq b.supi x) refl h done }
+pub settled_fits : (x : List ℕ) (r : Running) {May : List ℕ → Type 0} {b : Beginning} {w : Work} → IsBegun x r b → Settled May b w → Fits x r w
+settled_fits x r {May} {b} {w} h done = record { fit = own_or_other x r (bytes_eq b.supi x) refl h done }
 
 -- who is commanded has a challenge open
 commanding_on_runs : (number : ℕ) (procedure : Procedure) (o : Commanding) → commanding_on number procedure ≡ Some o
@@ -221,7 +221,7 @@ fit_begins x r s w is h = record {
 pub chain_before : {May : List ℕ → Type 0} {u : Received} {w : Work} → Chain May u w → w.amf.before ≡ u.first.amf.before
 unfolding put put_link
 chain_before nothing = refl
-chain_before (speaks number protection message h) = chain_before h
+chain_before (speaks number protection message may h) = chain_before h
 chain_before (waits number supi waiting h) = chain_before h
 chain_before (passes s p is may checked) = refl
 chain_before (does s is may done h) = before_stays done.moves ∙ chain_before h
@@ -230,7 +230,7 @@ pub chain_fits : (x : List ℕ) (r : Running) {May : List ℕ → Type 0} {u : R
     → Fits x r u.first → Chain May u w → Fits x r w
 unfolding put_link
 chain_fits x r distinct begin nothing = begin
-chain_fits x r distinct begin (speaks number protection message h) =
+chain_fits x r distinct begin (speaks number protection message may h) =
     record { fit = rw acts_onto ((chain_fits x r distinct begin h).fit) }
 chain_fits x r distinct begin (waits number supi waiting h) = record { fit = (chain_fits x r distinct begin h).fit }
 chain_fits x r {May} {u} distinct begin (passes s p is may checked) =

@@ -8,7 +8,7 @@ use Rattle.amf_core.specs.State.{has_number, is_same_link, link_in, unused}
 use Rattle.amf_core.specs.declared.link.Link.{Link}
 
 -- numbers that are tested equal
-same_number : (m n : ℕ) → (m == n) ≡ true → m ≡ n
+pub same_number : (m n : ℕ) → (m == n) ≡ true → m ≡ n
 same_number m n e = grind (arith, nat_tests)
 
 other_number : (m n k : ℕ) → (m == k) ≡ false → n ≡ k → (n == m) ≡ false
@@ -130,3 +130,25 @@ stays_unset changes links l number same h =
     (λ own. same
     ∙ ap (λ (n : ℕ). (link_in n (all_current is_same_link changes links)).secure) (same_number l.number number own) ∙ h)
     h
+
+-- whom a link that is put last passed or challenged
+own_supi : (number : ℕ) (l : Link) (x : Option Link) (supi : List ℕ)
+    → (per (option_map (λ (y : Link). l) x) (unused number) (λ (y : Link). y)).supi ≡ Some supi → l.supi ≡ Some supi
+unfolding per
+own_supi number l None supi e = absurd (cc)
+own_supi number l (Some y) supi e = e
+
+pub put_supi : (changes links : List Link) (l : Link) (number : ℕ) (supi : List ℕ) → (l.number == number) ≡ true
+    → (link_in number (all_current is_same_link (l ∷ changes) links)).supi ≡ Some supi → l.supi ≡ Some supi
+put_supi changes links l number supi own e =
+    own_supi number l (found (has_number number) links) supi
+    (sym (ap (λ (o : Option Link). (per o (unused number) (λ (y : Link). y)).supi)
+    (found_by_now number (l ∷ changes) links ∙ mapped_own changes l number (found (has_number number) links) own (found_has number links)))
+    ∙ e)
+
+tested_same : (m n : ℕ) → m ≡ n → (m == n) ≡ true
+tested_same m n e = grind (arith, nat_tests)
+
+-- the link of a number is tested to have it
+pub link_is_own : (number : ℕ) (links : List Link) → ((link_in number links).number == number) ≡ true
+link_is_own number links = tested_same (link_in number links).number number (link_number number links)

@@ -144,11 +144,11 @@ put_unset n m supi waiting w unset =
     stays_unset w.amf.changes.links w.amf.before.amf.links (record (link_of m w) { supi = supi; waiting = waiting }) n
     (sym (ap (λ (k : ℕ). (link_of k w).secure) (link_number m (all_current is_same_link w.amf.changes.links w.amf.before.amf.links)))) unset
 
-moves_unset : (n : ℕ) {b : Beginning} {p q : Running} {w : Work} → (link_of n b.first).secure ≡ false → Moves b p q w
+moves_unset : (n : ℕ) {May : List ℕ → Type 0} {b : Beginning} {p q : Running} {w : Work} → (link_of n b.first).secure ≡ false → Moves May b p q w
     → (link_of n w).secure ≡ false
 unfolding put
 moves_unset n begin here = begin
-moves_unset n begin (said number protection message h) = moves_unset n begin h
+moves_unset n begin (said number protection message may h) = moves_unset n begin h
 moves_unset n begin (asked call s h) = moves_unset n begin h
 moves_unset n begin (starts id s e h) = moves_unset n begin h
 moves_unset n begin (stops id s e h) = moves_unset n begin h
@@ -157,10 +157,10 @@ moves_unset n begin (links {p} {q} {w} number supi waiting h) = put_unset n numb
 moves_unset n begin (homes home h) = moves_unset n begin h
 moves_unset n begin (numbers h) = moves_unset n begin h
 
-moves_told : {b : Beginning} {p q : Running} {w : Work} → acts_passed b.first.acts ≡ true → Moves b p q w → acts_passed w.acts ≡ true
+moves_told : {May : List ℕ → Type 0} {b : Beginning} {p q : Running} {w : Work} → acts_passed b.first.acts ≡ true → Moves May b p q w → acts_passed w.acts ≡ true
 unfolding put put_link
 moves_told begin here = begin
-moves_told begin (said {p} {q} {w} number protection message h) =
+moves_told begin (said {p} {q} {w} number protection message may h) =
     act_more w.acts (Say number protection message) (moves_told begin h)
 moves_told begin (asked {p} {q} {w} call s h) =
     act_more w.acts (Tell (Smf (record { supi = s.supi; call = call }))) (moves_told begin h)
@@ -178,7 +178,7 @@ pub data Marked (n : ℕ) (w : Work) : Type 0 where
   is_unset : (link_of n w).secure ≡ false → Marked n w
   is_told : acts_passed w.acts ≡ true → Marked n w
 
-row_marked : (n : ℕ) {b : Beginning} {w : Work} → Marked n b.first → Settled b w → Marked n w
+row_marked : (n : ℕ) {May : List ℕ → Type 0} {b : Beginning} {w : Work} → Marked n b.first → Settled May b w → Marked n w
 row_marked n (is_unset e) done = is_unset (moves_unset n e done.moves)
 row_marked n (is_told e) done = is_told (moves_told e done.moves)
 
@@ -195,7 +195,7 @@ wait_marked n m supi waiting w (is_told e) = is_told e
 chain_marked : (n : ℕ) {May : List ℕ → Type 0} {u : Received} {w : Work} → (link_of n u.first).secure ≡ false → Chain May u w → Marked n w
 unfolding put put_link
 chain_marked n begin nothing = is_unset begin
-chain_marked n begin (speaks {w} number protection message h) =
+chain_marked n begin (speaks {w} number protection message may h) =
     say_marked n number w (Say number protection message) (chain_marked n begin h)
 chain_marked n begin (waits {w} number supi waiting h) = wait_marked n number supi waiting w (chain_marked n begin h)
 chain_marked n {May} {u} begin (passes s p is may checked) =

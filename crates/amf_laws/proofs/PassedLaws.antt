@@ -90,10 +90,10 @@ acts_pass P [] f h told = h
 acts_pass P (act ∷ acts) f h told = acts_pass P acts (framed act f) (act_passes P act f h told.0) told.1
 
 -- rows tell of no pass
-moves_passed : (P : Pass → Type 0) {b : Beginning} {p q : Running} {w : Work} → ActsPassed P b.first.acts → Moves b p q w → ActsPassed P w.acts
+moves_passed : (P : Pass → Type 0) {May : List ℕ → Type 0} {b : Beginning} {p q : Running} {w : Work} → ActsPassed P b.first.acts → Moves May b p q w → ActsPassed P w.acts
 unfolding put put_link
 moves_passed P begin here = begin
-moves_passed P begin (said {p} {q} {w} number protection message h) =
+moves_passed P begin (said {p} {q} {w} number protection message may h) =
     act_more P w.acts (Say number protection message) (moves_passed P begin h) tt
 moves_passed P begin (asked {p} {q} {w} call s h) =
     act_more P w.acts (Tell (Smf (record { supi = s.supi; call = call }))) (moves_passed P begin h) tt
@@ -115,7 +115,7 @@ chain_passed : (P : Pass → Type 0) {May : List ℕ → Type 0} {u : Received} 
     → Chain May u w → ActsPassed P w.acts
 unfolding put put_link
 chain_passed P begin checked_so nothing = begin
-chain_passed P begin checked_so (speaks {w} number protection message h) =
+chain_passed P begin checked_so (speaks {w} number protection message may h) =
     act_more P w.acts (Say number protection message) (chain_passed P begin checked_so h) tt
 chain_passed P begin checked_so (waits number supi waiting h) = chain_passed P begin checked_so h
 chain_passed P {May} {u} begin checked_so (passes s p is may checked) =

@@ -70,7 +70,7 @@ none_stays (T3591 psi) = refl
 none_stays (T3592 psi) = refl
 
 -- a row of the subscriber of a SUPI, if it is kept
-settled_left : {x : List ℕ} {r : Running} {b : Beginning} {w : Work} (a : AmfState) → b.first.amf.before.amf ≡ a → IsBegun x r b → Settled b w
+settled_left : {x : List ℕ} {r : Running} {May : List ℕ → Type 0} {b : Beginning} {w : Work} (a : AmfState) → b.first.amf.before.amf ≡ a → IsBegun x r b → Settled May b w
     → Left x r a w
 settled_left {x} {r} {b} {w} a before begun done = record {
   fits = settled_fits x r begun done;
@@ -78,27 +78,28 @@ settled_left {x} {r} {b} {w} a before begun done = record {
 }
 
 of_supi_left : (x : List ℕ) (r : Running) (a : AmfState) (supi : List ℕ) (row : Subscriber → Work → Work) (w : Work)
-    → Left x r a w → ((s : Subscriber) → Settled (begins s w) (row s w)) → Left x r a (of_supi supi row w)
+    → Left x r a w → ((s : Subscriber) → Settled (λ (y : List ℕ). Unit {0}) (begins s w) (row s w)) → Left x r a (of_supi supi row w)
 of_supi_left x r a supi row w h done =
     per_holds (λ (y : Work). Left x r a y) (subscriber supi w) w _ (λ _. h)
     (λ s e. settled_left a h.before (fit_begins x r s w (found_before supi w s e) h.fits) (done s))
 
 -- the same of a command
-settled_left_by : {x : List ℕ} {r : Running} {b : Beginning} (a : AmfState) (done : Result Work AmfRefusal) → b.first.amf.before.amf ≡ a
-    → IsBegun x r b → SettledBy b done → LeftBy x r a done
-settled_left_by a (Ok w) before begun done = settled_left a before begun done
-settled_left_by a (Err refusal) before begun done = tt
+settled_left_by : (May : List ℕ → Type 0) {x : List ℕ} {r : Running} {b : Beginning} (a : AmfState) (done : Result Work AmfRefusal) → b.first.amf.before.amf ≡ a
+    → IsBegun x r b → SettledBy May b done → LeftBy x r a done
+settled_left_by May a (Ok w) before begun done = settled_left a before begun done
+settled_left_by May a (Err refusal) before begun done = tt
 
 of_supi_left_by : (x : List ℕ) (r : Running) (a : AmfState) (supi : List ℕ) (row : Subscriber → Work → Result Work AmfRefusal)
-    (refusal : AmfRefusal) (w : Work) → Left x r a w → ((s : Subscriber) → SettledBy (begins s w) (row s w))
+    (refusal : AmfRefusal) (w : Work) → Left x r a w → ((s : Subscriber) → SettledBy (λ (y : List ℕ). Unit {0}) (begins s w) (row s w))
     → LeftBy x r a (per (subscriber supi w) (Err refusal) (λ (s : Subscriber). row s w))
 of_supi_left_by x r a supi row refusal w h done =
     per_holds (λ (y : Result Work AmfRefusal). LeftBy x r a y) (subscriber supi w) (Err refusal) _ (λ _. tt)
-    (λ s e. settled_left_by a (row s w) h.before (fit_begins x r s w (found_before supi w s e) h.fits) (done s))
+    (λ s e. settled_left_by (λ (y : List ℕ). Unit {0}) a (row s w) h.before (fit_begins x r s w (found_before supi w s e) h.fits) (done s))
 
 -- octets that come up
 pub any_may : (u : Received) → MayReceive (λ (x : List ℕ). Unit {0}) u
 any_may u = record {
+  link = λ _ _. tt;
   linked = λ _ _. tt;
   passing = λ _ _. record { itself = λ _ _. tt; named = λ _ _ _ _. tt };
   plain = λ _ _. tt;
@@ -126,7 +127,7 @@ received_left x r a number octets w distinct h =
 expired_begins : (x : List ℕ) (running : Running) (supi : List ℕ) (id : TimerId) (s : Subscriber) (w : Work) (own : Bool) → bytes_eq supi x ≡ own
     → w.acts ≡ [] → running ≡ running_for (subscriber_in x (kept_now w)) → subscriber supi w ≡ Some s
     → IsBegun x (if own then with_timer id false running else running)
-    (record { supi = s.supi; first = w; told = with_timer id false (running_in s.procedure); opened = running_in s.procedure })
+    (record { supi = s.supi; kept = s.kept; first = w; told = with_timer id false (running_in s.procedure); opened = running_in s.procedure })
 expired_begins x running supi id s w true own acts e found =
     let at_x : subscriber_in x (kept_now w) ≡ Some s =
     subst (λ (y : List ℕ). subscriber_in y (kept_now w) ≡ Some s) (are_equal supi x own) found in
@@ -165,7 +166,7 @@ expiry_left x running a supi id w acts e before =
     per_holds (λ (y : Work). Left x (if bytes_eq supi x then with_timer id false running else running) a y) (subscriber supi w) w _
     (λ none. record { fits = not_kept_fits x running supi id w (bytes_eq supi x) refl acts e none; before = before })
     (λ s found. settled_left a before (expired_begins x running supi id s w (bytes_eq supi x) refl acts e found)
-    (expired_settles id s refl here))
+    (expired_settles {May = λ (y : List ℕ). Unit {0}} id s (refl, λ few. few, tt) here))
 
 -- a link that is lost
 link_left : (x : List ℕ) (r : Running) (a : AmfState) (number : ℕ) (w : Work) → Left x r a w → Left x r a (put_link (unused number) w)
@@ -176,7 +177,7 @@ lost_left : (x : List ℕ) (r : Running) (a : AmfState) (supi : Option (List ℕ
     → Left x r a (lost_for supi number w)
 lost_left x r a supi number w h =
     per_holds (λ (y : Work). Left x r a y) supi w _ (λ _. h)
-    (λ z _. of_supi_left x r a z (link_lost_of number) w h (λ s. lost_settles number s refl here))
+    (λ z _. of_supi_left x r a z (link_lost_of number) w h (λ s. lost_settles number s (refl, λ few. few, tt) here))
 
 -- the row of each input
 input_left : (x : List ℕ) (running : List ℕ → Running) (a : AmfState) (home : List HomeRecord) (now : ℕ) (rand : List ℕ) (input : AmfInput)
@@ -190,19 +191,19 @@ input_left x running a home now rand (Expired supi id) distinct e =
     expiry_left x (running x) a supi id (started a home now rand) refl (start_fits x (running x) a home now rand e).fit refl
 input_left x running a home now rand (Authenticate supi) distinct e =
     of_supi_left_by x (running x) a supi authenticated _ (started a home now rand) (begin x (running x) a home now rand e)
-    (λ s. authenticated_settles {b = begins s (started a home now rand)} {q = running_in s.procedure} {w = started a home now rand} s refl here)
+    (λ s. authenticated_settles {May = λ (y : List ℕ). Unit {0}} {b = begins s (started a home now rand)} {q = running_in s.procedure} {w = started a home now rand} s (refl, λ few. few, tt) here)
 input_left x running a home now rand (Deregister supi) distinct e =
     of_supi_left_by x (running x) a supi left _ (started a home now rand) (begin x (running x) a home now rand e)
-    (λ s. left_settles {b = begins s (started a home now rand)} {q = running_in s.procedure} {w = started a home now rand} s refl here)
+    (λ s. left_settles {May = λ (y : List ℕ). Unit {0}} {b = begins s (started a home now rand)} {q = running_in s.procedure} {w = started a home now rand} s (refl, λ few. few, tt) here)
 input_left x running a home now rand (Fence supi) distinct e =
     of_supi_left x (running x) a supi fenced_of (started a home now rand) (begin x (running x) a home now rand e)
-    (λ s. fenced_settles s refl here)
+    (λ s. fenced_settles s (refl, λ few. few, tt) here)
 input_left x running a home now rand (Sessions supi status) distinct e =
     of_supi_left x (running x) a supi (sessions_told_of status) (started a home now rand) (begin x (running x) a home now rand e)
-    (λ s. sessions_settle status s refl here)
+    (λ s. sessions_settle status s (refl, λ few. few, tt) here)
 input_left x running a home now rand (Down supi psi frame) distinct e =
     of_supi_left x (running x) a supi (brought_down psi frame) (started a home now rand) (begin x (running x) a home now rand e)
-    (λ s. settled (brought_down_moves psi frame s here))
+    (λ s. settled (brought_down_moves psi frame s (refl, λ few. few, tt) here))
 input_left x running a home now rand (Dropped link) distinct e =
     lost_left x (running x) a (link_of link (started a home now rand)).supi link (put_link (unused link) (started a home now rand))
     (link_left x (running x) a link (started a home now rand) (begin x (running x) a home now rand e))
