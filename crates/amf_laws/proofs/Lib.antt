@@ -6,12 +6,14 @@ pub mod DeliveryRows
 pub mod EventRows
 pub mod FitLaws
 pub mod FramedFit
+pub mod KeptLaws
 pub mod LinkRecords
 pub mod MarkLaws
 pub mod Moves
 pub mod PassedLaws
 pub mod Records
 pub mod RegistrationRows
+pub mod StepRows
 pub mod TimerLaws
 pub mod Told
 pub mod UncheckedLaws

@@ -73,7 +73,7 @@ found_has supi (x ∷ subscribers) s e =
     first_has supi subscribers x s (bytes_eq x.supi supi) refl (found_has supi subscribers s) e
 
 -- one more record changes
-changed_first : (changes : List Subscriber) (s x : Subscriber) (is : Bool) → bytes_eq x.supi s.supi ≡ is
+pub changed_first : (changes : List Subscriber) (s x : Subscriber) (is : Bool) → bytes_eq x.supi s.supi ≡ is
     → current is_same_subscriber (s ∷ changes) x ≡ (if is then s else current is_same_subscriber changes x)
 changed_first changes s x true e = rw e refl
 changed_first changes s x false e = rw e refl
