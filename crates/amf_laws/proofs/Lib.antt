@@ -10,6 +10,7 @@ pub mod KeptLaws
 pub mod LinkRecords
 pub mod MarkLaws
 pub mod Moves
+pub mod OtherLaws
 pub mod PassedLaws
 pub mod Records
 pub mod RegistrationRows
