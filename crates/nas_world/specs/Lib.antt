@@ -1,5 +1,7 @@
+pub mod Agree
 pub mod Config
+pub mod Events
+pub mod Honest
 pub mod Logs
 pub mod Script
-pub mod Subscribers
-pub mod World
+pub mod State
