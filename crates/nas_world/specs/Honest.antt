@@ -10,13 +10,13 @@ use Rattle.milenage.specs.Autn.{vector}
 use Rattle.milenage.specs.declared.vector.Vector.{Vector}
 use Rattle.amf_core.specs.Challenges.{abba}
 use Rattle.amf_core.specs.Keyed.{found}
-use Rattle.nas_network.specs.declared.config.Subscriber.{Subscriber}
 use Rattle.nas_security.specs.Contexts.{SecurityContext}
 use Rattle.nas_security.specs.declared.challenges.Challenge.{Challenge}
 use Rattle.nas_security.specs.declared.sends.Pass.{Pass}
 use Rattle.nas_security.specs.declared.sends.Send.{Send}
 use Rattle.nas_world.specs.Logs.{was_sent}
 use Rattle.nas_world.specs.State.{WorldState}
+use Rattle.nas_world.specs.declared.cards.Card.{Card}
 use Rattle.nas_world.specs.declared.passes.End.{End}
 use Rattle.nas_world.specs.declared.passes.End.TheVariants as ends
 use Rattle.nas_world.specs.declared.passes.Passing.{Passing}
@@ -30,17 +30,17 @@ of_other_end ends.Network w = w.up
 abbrev pub vector_kamf : PlmnIdentity → List ℕ → Vector → List ℕ
 vector_kamf plmn supi v = kamf (kseaf (kausf v.ck v.ik plmn (take 6 v.autn)) plmn) supi abba
 
-unfoldable pub net_kamf : PlmnIdentity → Subscriber → Challenge → List ℕ
+unfoldable pub net_kamf : PlmnIdentity → Card → Challenge → List ℕ
 net_kamf plmn s c = vector_kamf plmn s.supi (vector s.k s.opc c.rand c.sqn s.field)
 
 -- a context has the key of the subscriber and of the challenge that it was taken with; a sequence number has 48 bits
-abbrev pub is_of : List ℕ → Subscriber → Bool
+abbrev pub is_of : List ℕ → Card → Bool
 is_of supi s = bytes_eq s.supi supi
 
 unfoldable pub has_net_kamf : Pass → WorldState → SecurityContext → Bool
 has_net_kamf pass w context =
-    per (found (is_of pass.supi) w.subscribers) false
-    (λ (s : Subscriber). nat_lt pass.challenge.sqn (2 ^ 48) && bytes_eq context.kamf (net_kamf w.plmn s pass.challenge))
+    per (found (is_of pass.supi) w.cards) false
+    (λ (s : Card). nat_lt pass.challenge.sqn (2 ^ 48) && bytes_eq context.kamf (net_kamf w.plmn s pass.challenge))
 
 -- one delivery that passed: the octets had been sent before, by the other end, for the same subscriber, under the same challenge, with
 -- the same count; and the context, if one was taken, is the network's

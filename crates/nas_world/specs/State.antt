@@ -1,5 +1,5 @@
 -- Both ends, and all that was logged of them.
-use Rattle.std.specs.Prelude.{ℕ, List, [], replicate}
+use Rattle.std.specs.Prelude.{ℕ, List, [], map, replicate}
 use Rattle.nas_base.specs.Plmn.{PlmnIdentity}
 use Rattle.nas_security.specs.Contexts.{SecurityContext}
 use Rattle.nas_security.specs.declared.sends.Send.{Send}
@@ -7,12 +7,13 @@ use Rattle.nas_handset.specs.State as handset
 use Rattle.nas_handset.specs.State.{HandsetState}
 use Rattle.nas_network.specs.State as network
 use Rattle.nas_network.specs.State.{NetworkState}
-use Rattle.nas_network.specs.declared.config.Subscriber.{Subscriber}
+use Rattle.nas_network.specs.Config.{SubscriberValues}
 use Rattle.nas_world.specs.Config.{WorldValues}
+use Rattle.nas_world.specs.declared.cards.Card.{Card}
 use Rattle.nas_world.specs.declared.passes.Passing.{Passing}
 
 -- Both ends, and the random octets that stand for the network. What each end sent, in order; the contexts that the handset took into
--- use; what passed a check. And what was configured of the network's PLMN, its subscribers, and the handset's SUPI, which stays.
+-- use; what passed a check. And what was configured: the PLMN, the keys of the network's subscribers, and the handset's SUPI.
 pub record WorldState : Type 0 where
   pub handset : HandsetState
   pub network : NetworkState
@@ -22,8 +23,12 @@ pub record WorldState : Type 0 where
   pub taken : List SecurityContext
   pub passes : List Passing
   pub plmn : PlmnIdentity
-  pub subscribers : List Subscriber
+  pub cards : List Card
   pub supi : List ℕ
+
+-- the keys of a subscriber
+abbrev pub card_of : SubscriberValues → Card
+card_of s = record { supi = s.supi; k = s.k; opc = s.opc; field = s.field }
 
 -- before any event
 abbrev pub first : WorldValues → WorldState
@@ -36,6 +41,6 @@ first config = record {
   taken = [];
   passes = [];
   plmn = config.net.plmn;
-  subscribers = config.net.subscribers;
+  cards = map card_of config.net.subscribers;
   supi = config.handset.supi;
 }

@@ -2,6 +2,7 @@
 //! handset, a network, and the events that a script makes happen between them.
 #![tactic(auto)]
 
+mod cards;
 mod config;
 mod event;
 mod logs;
@@ -10,6 +11,7 @@ mod script;
 mod seen;
 mod world;
 
+pub use crate::cards::Card;
 pub use crate::config::WorldConfig;
 pub use crate::event::{Event, NetOrder, RefusedWord};
 pub use crate::logs::{SentLog, TakenLog};
