@@ -1,21 +1,13 @@
-//! Both ends together, with the logs of what each has sent, of what passed a check and of the security contexts that were taken into use: a
-//! handset, a network, and the events that a script makes happen between them.
+//! Dev.
 #![tactic(auto)]
 
 mod cards;
-mod config;
-mod event;
+mod honesty;
 mod logs;
 mod passes;
-mod script;
-mod seen;
-mod world;
+mod sent;
+mod taken;
 
 pub use crate::cards::Card;
-pub use crate::config::WorldConfig;
-pub use crate::event::{Event, NetOrder, RefusedWord};
 pub use crate::logs::{SentLog, TakenLog};
-pub use crate::passes::{End, Passing};
-pub use crate::script::{Script, ScriptLine};
-pub use crate::seen::Seen;
-pub use crate::world::World;
+pub use crate::passes::{End, Heard, Passing};
