@@ -40,11 +40,14 @@ unfoldable pub guti_agrees : UeView → NetView → WorldState → Bool
 guti_agrees ue net w = when ue.registered then per ue.guti false (is_kept net w) else true
 
 -- At most two are kept, and one alone once it is confirmed.
+abbrev pub is_alone : NetView → Bool
+is_alone net = when net.completed then length net.kept == 1 else true
+
 abbrev pub kept_fit : NetView → Bool
-kept_fit net = nat_le (length net.kept) 2 && (when net.completed then length net.kept == 1 else true)
+kept_fit net = nat_le (length net.kept) 2 && is_alone net
 
 abbrev pub both_agree : UeView → NetView → WorldState → Bool
-both_agree ue net w = keys_agree ue net w && guti_agrees ue net w && kept_fit net
+both_agree ue net w = keys_agree ue net w && (guti_agrees ue net w && kept_fit net)
 
 -- Both ends agree. A handset that is no subscriber isn't registered.
 unfoldable pub agree : WorldState → Bool

@@ -7,7 +7,7 @@ use Rattle.nas_handset.specs.State as handset
 use Rattle.nas_handset.specs.State.{HandsetState}
 use Rattle.nas_network.specs.State as network
 use Rattle.nas_network.specs.State.{NetworkState}
-use Rattle.nas_network.specs.Config.{SubscriberValues}
+use Rattle.nas_world.specs.Cards.{card_of}
 use Rattle.nas_world.specs.Config.{WorldValues}
 use Rattle.nas_world.specs.Honest.{JudgedLog, all_honest}
 use Rattle.nas_world.specs.declared.cards.Card.{Card}
@@ -26,10 +26,6 @@ pub record WorldState : Type 0 where
   pub plmn : PlmnIdentity
   pub cards : List Card
   pub supi : List ℕ
-
--- the keys of a subscriber
-abbrev pub card_of : SubscriberValues → Card
-card_of s = record { supi = s.supi; k = s.k; opc = s.opc; field = s.field }
 
 -- before any event
 abbrev pub first : WorldValues → WorldState
