@@ -1,8 +1,8 @@
 -- The lines of a script that are events.
-use Rattle.std.specs.Prelude.{ℕ, Bool, true, false, List, length, drop, codes, nat_eq, Option, Some, None, option_map, option_or, if◌then◌else◌}
+use Rattle.std.specs.Prelude.{ℕ, Bool, true, false, List, length, drop, codes, nat_eq, Option, Some, None, option_map, if◌then◌else◌}
 use Rattle.std.specs.Cmp.Lexicographic.{pointwise}
 use Rattle.std.specs.List.{starts_with}
-use Rattle.std.specs.Option.{option_and_then}
+use Rattle.std.specs.Option.{option_and_then, option_or}
 use Rattle.nas_base.specs.declared.kind.Kind.TheVariants as kinds
 use Rattle.nas_handset.specs.declared.command.UeCommand.{UeCommand}
 use Rattle.nas_handset.specs.declared.command.UeCommand.TheVariants as commands

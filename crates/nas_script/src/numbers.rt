@@ -13,7 +13,11 @@ pub fn count_of(digits: &[u8]) -> Option<u32>
     ensures { result ≡ count_in digits.now }
 {
     let number = number_of(ABOVE_U32, digits)?;
-    if number == 0 { None } else { Some(number as u32) }
+    if number == 0 {
+        None
+    } else {
+        Some(number as u32)
+    }
 }
 
 /// A moment, without sign or leading zeros: 10^15 at most.
@@ -39,8 +43,14 @@ fn number_of(limit: u64, digits: &[u8]) -> Option<u64>
 {
     match digits {
         [] => None,
-        [b'0', _, ..] => None,
-        _ => decimal(limit, digits),
+        [_] => decimal(limit, digits),
+        [first, _, ..] => {
+            if *first == b'0' {
+                None
+            } else {
+                decimal(limit, digits)
+            }
+        }
     }
 }
 
