@@ -1,0 +1,11 @@
+//! A network: its AMF and its home network with the timers that run, in moments that are told (TS 24.501 clause 5, TS 33.102 clause
+//! 6.3).
+#![tactic(auto)]
+
+mod config;
+#[cfg(test)]
+mod tests;
+
+pub use crate::config::{
+    Dnns, NetConfig, Subscriber, Subscribers, is_for_5g, is_pool_size, pool_fits,
+};
