@@ -1,1 +1,5 @@
 pub mod Config
+pub mod Network
+pub mod State
+pub mod Ticks
+pub mod Turns

@@ -2,10 +2,22 @@
 //! 6.3).
 #![tactic(auto)]
 
+mod beginning;
+mod command;
 mod config;
 #[cfg(test)]
+mod ends_tests;
+mod network;
+#[cfg(test)]
+mod test_network;
+#[cfg(test)]
 mod tests;
+mod ticks;
+mod timers;
+mod turn;
 
+pub use crate::command::{NetCommand, NetDelivery, NetRefusal};
 pub use crate::config::{
     Dnns, NetConfig, Subscriber, Subscribers, is_for_5g, is_pool_size, pool_fits,
 };
+pub use crate::network::Network;
