@@ -52,7 +52,10 @@ pub fn answer(alloc: Global, words: &[&str]) -> Result<String, Refusal> {
     match words {
         ["handset", sqn, capability, inputs @ ..] => walk(alloc, sqn, capability, inputs),
         ["time_registration", times] => {
-            sum_text(alloc, handset_times::registrations(alloc, quantity(times)?)?)
+            sum_text(
+                alloc,
+                handset_times::registrations(alloc, quantity(times)?)?,
+            )
         }
         ["time_discarded", times] => {
             sum_text(alloc, handset_times::discarded(alloc, quantity(times)?)?)

@@ -49,7 +49,10 @@ pub fn answer(alloc: Global, words: &[&str]) -> Result<String, Refusal> {
         }
         ["time_network", times, subscribers] => {
             let (times, subscribers) = (quantity(times)?, quantity(subscribers)?);
-            sum_text(alloc, network_times::registrations(alloc, times, subscribers)?)
+            sum_text(
+                alloc,
+                network_times::registrations(alloc, times, subscribers)?,
+            )
         }
         ["time_network_copy", times, subscribers] => {
             let (times, subscribers) = (quantity(times)?, quantity(subscribers)?);

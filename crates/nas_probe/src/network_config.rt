@@ -1,5 +1,6 @@
 //! The network of a call, and its subscribers; network_calls lists their words.
 ghost use Rattle.std.specs.Prelude.{◌≡◌, ◌≤◌, ◌==◌, ◌||◌, true, false, IfOk};
+ghost use Rattle.milenage.specs.Checking.{is_for_5g};
 ghost use Rattle.milenage.specs.Home.{is_sqn};
 ghost use Rattle.nas_base.specs.Supi.{is_of_plmn};
 ghost use Rattle.nas_timers.specs.Durations.{is_duration};
@@ -9,9 +10,7 @@ use crate::handset_calls::sequence_number;
 use crate::words::{Refusal, block, exactly, network, octet, octets, quantity, subscriber};
 use nas_base::{Moment, Plmn, Supi};
 use nas_elements::{Ambr, Dnn, Nssai, Timer3};
-use nas_network::{
-    Dnns, NetConfig, Subscriber, Subscribers, is_for_5g, is_pool_size, pool_fits,
-};
+use nas_network::{Dnns, NetConfig, Subscriber, Subscribers, is_for_5g, is_pool_size, pool_fits};
 use nas_timers::Durations;
 use std::alloc::Global;
 
@@ -38,7 +37,11 @@ pub fn read_config(alloc: Global, words: &str, subscribers: &str) -> Result<NetC
         t3560: duration(t3560)?,
         ..Durations::standard()
     };
-    let subscribers = read_subscribers(alloc, &plmn, parts_of(alloc, subscribers, ',')?.as_slice())?;
+    let subscribers = read_subscribers(
+        alloc,
+        &plmn,
+        parts_of(alloc, subscribers, ',')?.as_slice(),
+    )?;
     if !is_pool_size(POOL_SIZE) || !pool_fits(&POOL, POOL_SIZE) {
         return Err(Refusal::Unreadable);
     }
@@ -156,7 +159,7 @@ fn new_supi(plmn: &Plmn, before: &Subscribers, word: &str) -> Result<Supi, Refus
 }
 
 fn field_of(word: &str) -> Result<[u8; 2], Refusal>
-    ensures { IfOk result (λ field. Rattle.milenage.specs.Checking.is_for_5g field ≡ true) }
+    ensures { IfOk result (λ field. is_for_5g field ≡ true) }
 {
     let field = exactly::<2>(word)?;
     if !is_for_5g(&field) {

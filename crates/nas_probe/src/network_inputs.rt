@@ -27,7 +27,9 @@ pub enum Input {
     /// The moment is told.
     Tick(Moment),
     /// A link is lost.
-    Drop { link: u16 },
+    Drop {
+        link: u16,
+    },
     /// A copy of the network goes on in its place.
     Copy,
 }
