@@ -2,7 +2,7 @@
 
 Each step compares what is sent, octet for octet, in order, with its link and its pass, the message that passed, the refusal, and all
 that can be seen of each subscriber. Which timers run is seen by ticks, at their deadlines and just before. Handsets of the model
-register with it, one of them of no subscriber, over links that lose, repeat and change what they carry; other octets come beside.
+register with it, two of one subscriber and one of none, over links that lose, repeat and change what they carry; other octets come beside.
 
 The model has sessions, which the network hasn't yet: so what it does with their messages is replaced by nothing.
 
@@ -11,7 +11,7 @@ usage: network.py MODEL PROBE [WALKS [SEED]]
 import sys
 
 from elements import mutated
-from frame_inputs import CAPABILITIES
+from frame_inputs import CAPABILITIES, LONGEST
 from handset_walks import COMMANDS
 from network_inputs import LAST_SQN, Handsets
 from probe import text
@@ -65,6 +65,11 @@ class Subscribed:
         field = rng.choice([b"\xb9\xb9", b"\x80\x00"])
         return standard._replace(supi=supi, k=rng.randbytes(16), opc=rng.randbytes(16), field=field, sqn=sqn, slices=slices)
 
+    def stranger(self):
+        """A subscriber of another network."""
+        first = self.subscribers[0]
+        return first._replace(supi=first.supi[:6] + "999999999")
+
     def handset(self, subscriber):
         """A handset of the subscriber, mostly with its keys and a sequence number that lets it take a challenge."""
         rng, sqn = self.rng, subscriber.sqn
@@ -101,12 +106,12 @@ class NetworkWalk(Walk):
         made = Subscribed(rng, model)
         self.network = self.observed()(made.config)
         self.words += made.words()
-        stranger = made.subscribers[0]._replace(supi=made.subscribers[0].supi[:5] + "9999999999")
-        links = rng.sample([1, 2, 3, 4, 33, 64], 4)
-        self.phones = [self.new_phone(made.handset(of), link) for of, link in zip(made.subscribers + [stranger], links)]
+        owners = made.subscribers + [made.subscribers[0], made.stranger()]
+        links = rng.sample([1, 2, 3, 4, 33, 64], len(owners))
+        self.phones = [self.new_phone(made.handset(owner), link) for owner, link in zip(owners, links)]
         self.others = Handsets(rng, model.crypto, model.codec, self.network)
         self.phone, self.rand = rng.choice(self.phones), bytes(16)
-        self.calm = rng.choice([0, 8, 16, 24])  # so many steps of one handset at the beginning
+        self.calm = rng.choice([0, 8, 8, 16])  # so many steps of one handset at the beginning
 
     def new_phone(self, config, link):
         """A handset that was just made. Some have a 5G-GUTI of another network."""
@@ -190,9 +195,17 @@ class NetworkWalk(Walk):
         self.command(self.rng.choice(["authenticate", "deregister"]), supi)
 
     def tick(self):
+        self.tell(self.moment(self.network))
+
+    def tell(self, moment):
         self.draw_rand()
-        moment = self.moment(self.network)
         self.step(f"tick:{moment}", lambda: self.network.tick(self.rand, moment))
+
+    def let_expire(self):
+        """Timers expire one after the other, perhaps up to the end of a procedure."""
+        for _ in range(self.rng.randint(1, 6)):
+            if self.network.timers:
+                self.tell(min(self.network.timers.values()))
 
     def drop(self):
         phone = self.rng.choice(self.phones)
@@ -222,6 +235,10 @@ class NetworkWalk(Walk):
         except self.model.ue.Refused:
             pass
 
+    def wait(self, phone):
+        """The handset waits for its next timer."""
+        phone.say(phone.handset.tick(min(phone.handset.timers.values())))
+
     def reach(self, phone):
         """What came down reaches the handset, or is lost, or comes once more."""
         octets = phone.came.pop(0)
@@ -249,7 +266,7 @@ class NetworkWalk(Walk):
         fresh, octets = self.rng.choice(phone.sent[-4:])
         if self.chance(0.5):
             octets = mutated(self.rng, octets)
-        link = phone.link if self.chance(0.7) else self.rng.choice(self.phones).link
+        link = phone.link if self.chance(0.6) else self.rng.choice(self.phones).link
         self.deliver(link, fresh if self.chance(0.9) else not fresh, octets)
 
     def other_octets(self):
@@ -257,7 +274,7 @@ class NetworkWalk(Walk):
         link, octets = self.others.string()
         if link is None or self.chance(0.15):
             link = self.rng.choice(self.phones).link
-        self.deliver(link, self.chance(0.15), octets)
+        self.deliver(link, self.chance(0.15 if len(octets) <= LONGEST else 0.5), octets)
 
     def go_on(self, phone):
         """The handset and the network go on with what is under way."""
@@ -265,11 +282,14 @@ class NetworkWalk(Walk):
             return self.reach(phone)
         if phone.place < len(phone.sent):
             return self.come_up(phone)
+        record = self.network.subs.get(phone.handset.cfg.supi)
+        if record and record.word == "Registered" and record.proc is None and self.chance(0.3):
+            return self.command(self.rng.choice(["authenticate", "deregister"]), record.supi)
         if phone.handset.word in ("Deregistered", "Registered") and self.chance(0.7):
             return self.commanded(phone)
-        if self.chance(0.5):
-            return self.command(self.rng.choice(["authenticate", "authenticate", "deregister"]), phone.handset.cfg.supi)
-        return self.tick()
+        if phone.handset.timers and self.chance(0.4):
+            return self.wait(phone)
+        return self.any_command() if self.chance(0.2) else self.tick()
 
     def go(self):
         """One step, or something between steps."""
@@ -278,7 +298,7 @@ class NetworkWalk(Walk):
             return self.go_on(self.phone)
         if self.chance(0.08):
             self.phone = rng.choice(self.phones)
-        if drawn < 0.70:
+        if drawn < 0.65:
             return self.go_on(self.phone)
         if drawn < 0.80:
             return self.other_octets()
@@ -286,8 +306,10 @@ class NetworkWalk(Walk):
             return self.late_or_changed()
         if drawn < 0.88:
             return self.any_command()
-        if drawn < 0.94:
+        if drawn < 0.93:
             return self.tick()
+        if drawn < 0.94:
+            return self.let_expire()
         if drawn < 0.96:
             return self.drop()
         if drawn < 0.965:
@@ -318,4 +340,4 @@ def draw(rng):
 
 
 if __name__ == "__main__":
-    sys.exit(compare("network", draw, Answered, 300))
+    sys.exit(compare("network", draw, Answered, 600))

@@ -30,31 +30,33 @@ class Handsets(Frames):
         self.gutis, self.contexts = [], []
 
     def record(self):
-        """One of the subscribers, mostly one that has a context."""
+        """One of the subscribers, mostly one that has a context in use or an open procedure."""
         records = list(self.network.subs.values())
-        known = [record for record in records if record.in_use or record.proc]
-        return self.rng.choice(known if known and self.chance(0.8) else records)
+        known = [record for record in records if record.in_use] if self.chance(0.6) else [record for record in records if record.proc]
+        return self.rng.choice(known if known and self.chance(0.9) else records)
 
     # messages
 
     def identity(self, record):
         """The octets of an identity, mostly one of the subscriber's."""
         rng, codec, drawn = self.rng, self.codec, self.rng.random()
-        plmn = self.network.cfg.plmn
         gutis = list(record.kept) if record.kept and self.chance(0.8) else self.gutis
         if drawn < 0.35:
-            begin = len(plmn.mcc) + len(plmn.mnc)
-            msin = record.supi[begin:] if self.chance(0.9) else rng.choice(["1", "123456789", record.supi[begin:][::-1]])
-            return codec.Identity.write(codec.Suci(plmn, rng.choice(["0", "0", "12", "1234"]), msin))
-        if drawn < 0.75 and gutis:
+            return self.suci(record)
+        if drawn < 0.9 and gutis:
             guti = rng.choice(gutis)
             if self.chance(0.15):
                 guti = guti._replace(**{rng.choice(["region", "set_pointer", "tmsi"]): rng.choice([0, 1, 2, 64])})
-            return codec.Identity.write(guti)
-        if drawn < 0.9 and gutis:
-            guti = rng.choice(gutis)
-            return codec.Identity.write(codec.Stmsi(guti.set_pointer, guti.tmsi))
+            return codec.Identity.write(guti if drawn < 0.75 else codec.Stmsi(guti.set_pointer, guti.tmsi))
         return bytes.fromhex(rng.choice(IDENTITIES))
+
+    def suci(self, record):
+        """A SUCI, mostly the subscriber's."""
+        plmn, rng = self.network.cfg.plmn, self.rng
+        msin = record.supi[len(plmn.mcc) + len(plmn.mnc) :]
+        if self.chance(0.1):
+            msin = rng.choice(["1", "123456789", msin[::-1]])
+        return self.codec.Identity.write(self.codec.Suci(plmn, rng.choice(["0", "0", "12", "1234"]), msin))
 
     def request(self, record):
         """A REGISTRATION REQUEST."""
@@ -83,8 +85,9 @@ class Handsets(Frames):
         sqn = challenge[0] + self.rng.choice([0, 0, 1, 1000]) if self.chance(0.9) else LAST_SQN - self.rng.randint(0, 1)
         sqn = min(max(sqn, challenge[0]), LAST_SQN)
         auts = self.crypto.check_autn(record.k, record.opc, challenge[1], record.proc.autn, sqn)[1]
-        made = bytes([0x7E, 0, 0x59, 21, 0x30, 14]) + auts
-        return made if self.chance(0.8) else mutated(self.rng, made)
+        if self.chance(0.15):
+            auts = self.rng.choice([auts[:13], auts[:6] + bytes(8)])
+        return bytes([0x7E, 0, 0x59, 21, 0x30, len(auts)]) + auts
 
     def response(self, record):
         """An AUTHENTICATION RESPONSE, right where a challenge is open."""
@@ -101,7 +104,7 @@ class Handsets(Frames):
 
     def any_message(self, record):
         """A plain message."""
-        rng, drawn = self.rng, self.rng.randrange(12)
+        rng, drawn = self.rng, self.rng.randrange(13)
         if drawn < 3:
             return self.request(record)
         if drawn == 3:
@@ -112,9 +115,9 @@ class Handsets(Frames):
             return bytes([0x7E, 0, 0x5C]) + counted(self.identity(record))
         if drawn == 6:
             return rng.choice([self.completion, self.failure, self.response])(record)
-        if drawn == 7:
+        if drawn in (7, 8):
             return self.transport()
-        return bytes.fromhex("7e00" + rng.choice(ANSWERS if drawn < 10 else WRONG).replace("cc", f"{rng.choice(CAUSES):02x}"))
+        return bytes.fromhex("7e00" + rng.choice(ANSWERS if drawn < 11 else WRONG).replace("cc", f"{rng.choice(CAUSES):02x}"))
 
     # frames
 
@@ -145,13 +148,18 @@ class Handsets(Frames):
         links = [number for number, link in self.network.links.items() if link.waiting]
         if not links:
             return None
-        return self.rng.choice(links), bytes([0x7E, 0, 0x5C]) + counted(self.identity(self.record()))
+        record = self.record()
+        identity = self.suci(record) if self.chance(0.7) else self.identity(record)
+        return self.rng.choice(links), bytes([0x7E, 0, 0x5C]) + counted(identity)
 
     def next_in_line(self, record):
         """What the subscriber's handset could send next in a procedure that is open, or nothing."""
         phase = getattr(record.proc, "phase", None)
         if phase == "Auth":
-            return self.response(record) if self.chance(0.6) else self.failure(record)
+            drawn = self.rng.random()
+            if drawn < 0.2:
+                return bytes([0x7E, 0, 0x59, self.rng.choice([20, 26, 71, 71])])
+            return self.response(record) if drawn < 0.6 else self.failure(record)
         if phase == "Mode" and self.chance(0.9):
             return self.frame(record.proc.pending, 4, self.completion(record))
         if record.offered and not record.completed and record.in_use:
@@ -180,11 +188,12 @@ class Handsets(Frames):
             return answer
         record = self.record()
         octets = (self.next_in_line(record) if self.chance(0.3) else None) or self.any_string(record)
-        return record.link or getattr(record.proc, "link", None), octets
+        link = getattr(record.proc, "link", None)
+        return link if link and self.chance(0.7) else record.link or link, octets
 
     def any_string(self, record):
         drawn, message = self.rng.random(), self.any_message(record)
-        if drawn < 0.45:
+        if drawn < (0.65 if record.in_use else 0.2):
             return self.framed(record, message)
         if drawn < 0.7:
             return message
