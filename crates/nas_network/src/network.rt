@@ -1,5 +1,5 @@
 //! The network.
-ghost use Rattle.std.specs.Prelude.{◌≡◌, take, IfOk, OnErr};
+ghost use Rattle.std.specs.Prelude.{◌≡◌, max, take, IfOk, OnErr};
 ghost use Rattle.amf_core.specs.State.{view_in};
 ghost use Rattle.nas_network.specs.Network.{Commands, answered, commanded, delivered, dropped, most_taken};
 ghost use Rattle.nas_network.specs.State.{first};
@@ -16,6 +16,9 @@ use milenage::Home;
 use nas_base::{Memory, Moment, Octets, Supi};
 use std::alloc::Global;
 use std::marker::Model;
+
+// How many octets an AMF is handed at most.
+const MOST_TAKEN: usize = 4097;
 
 // No challenge starts where a link is lost.
 const NO_RAND: [u8; 16] = [0, 0, 0, 0, 0, 0, 0, 0, 0, 0, 0, 0, 0, 0, 0, 0];
@@ -46,9 +49,10 @@ impl Network {
     pub fn new(alloc: Global, config: &NetConfig) -> Result<Network, Memory>
         ensures { IfOk result (λ network. network ≡ first config.now) }
     {
+        let subscribers = config.subscribers.as_slice();
         let amf = Amf::new(alloc, &amf_config(alloc, config)?)?;
-        let home = Home::new(alloc, &home_list(alloc, config)?)?;
-        let timers = none_run(alloc, config.subscribers.as_slice())?;
+        let home = Home::new(alloc, &home_list(alloc, subscribers)?)?;
+        let timers = none_run(alloc, subscribers)?;
         Ok(Network {
             amf,
             home,
@@ -117,7 +121,9 @@ impl Network {
         ensures ok { IfOk result (λ delivery. answered self.new delivery ≡ delivered rand.now link fresh octets.now self.old) }
         ensures err { OnErr result (self.new ≡ self.old) }
     {
-        let octets = most_of(alloc, octets)?;
+        let Ok(octets) = Octets::copy(alloc, most_of(octets)) else {
+            return Err(Memory);
+        };
         let uplink = AmfInput::Uplink {
             link,
             fresh,
@@ -132,7 +138,7 @@ impl Network {
     /// # Errors
     ///
     /// `Memory`; all is then as before.
-    #[tactic(auto, using(crate::proofs::Due::none_due))]
+    #[tactic(auto, unfolding(crate::specs::Ticks::ticked))]
     pub fn tick(
         &mut self,
         alloc: Global,
@@ -142,12 +148,14 @@ impl Network {
         ensures ok { IfOk result (λ delivery. answered self.new delivery ≡ ticked rand.now now self.old) }
         ensures err { OnErr result (self.new ≡ self.old) }
     {
-        let moment = self.moment.max(now);
-        if first_due(moment, self.timers.as_slice()).is_some() {
-            return self.fire_due(alloc, rand, moment);
+        let moment = later(self.moment, now);
+        match first_due(moment, self.timers.as_slice()) {
+            Some(_) => self.fire_due(alloc, rand, moment),
+            None => {
+                self.moment = moment;
+                Ok(Gained::new(alloc).delivery())
+            }
         }
-        self.moment = moment;
-        Ok(Gained::new(alloc).delivery())
     }
 
     /// A link is lost, 1 to 64.
@@ -206,15 +214,19 @@ impl Network {
 }
 
 // As many of the octets as an AMF is handed.
-fn most_of(alloc: Global, octets: &[u8]) -> Result<Octets, Memory>
-    ensures { IfOk result (λ taken. taken ≡ take most_taken octets.now) }
+fn most_of(octets: &[u8]) -> &[u8]
+    ensures { result.now ≡ take most_taken octets.now }
 {
-    let most = match octets.get(..4097) {
-        Some(most) => most,
-        None => octets,
-    };
-    match Octets::copy(alloc, most) {
-        Ok(octets) => Ok(octets),
-        Err(_) => Err(Memory),
+    if octets.len() <= MOST_TAKEN {
+        return octets;
     }
+    let (most, _) = octets.split_at(MOST_TAKEN);
+    most
+}
+
+// The later of two moments.
+fn later(one: Moment, other: Moment) -> Moment
+    ensures { result ≡ max one other }
+{
+    one.max(other)
 }
