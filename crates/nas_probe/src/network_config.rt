@@ -128,8 +128,8 @@ fn read_subscriber(
     before: &Subscribers,
     word: &str,
 ) -> Result<Subscriber, Refusal>
-    ensures of { IfOk result (λ subscriber. is_of_plmn plmn.now subscriber.supi ≡ true) }
-    ensures new { IfOk result (λ subscriber. is_subscriber subscriber.supi before.now ≡ false) }
+    ensures network { IfOk result (λ subscriber. is_of_plmn plmn.now subscriber.supi ≡ true) }
+    ensures fresh { IfOk result (λ subscriber. is_subscriber subscriber.supi before.now ≡ false) }
 {
     let parts = parts_of(alloc, word, ':')?;
     let [supi, k, opc, field, sqn, slices] = parts.as_slice() else {
@@ -148,8 +148,8 @@ fn read_subscriber(
 }
 
 fn new_supi(plmn: &Plmn, before: &Subscribers, word: &str) -> Result<Supi, Refusal>
-    ensures of { IfOk result (λ supi. is_of_plmn plmn.now supi ≡ true) }
-    ensures new { IfOk result (λ supi. is_subscriber supi before.now ≡ false) }
+    ensures network { IfOk result (λ supi. is_of_plmn plmn.now supi ≡ true) }
+    ensures fresh { IfOk result (λ supi. is_subscriber supi before.now ≡ false) }
 {
     let supi = subscriber(word)?;
     if !supi.is_of(plmn) || before.contain(&supi) {
