@@ -1,0 +1,166 @@
+-- The moves of answers to challenges, of service requests and of transports, of one subscriber.
+use Rattle.std.proofs.Common.{◌≡◌, refl, sym, ap, subst, ◌∙◌, ◌==◌, ◌||◌, ℕ, Bool, true, false, List, Option, Some, None}
+use Rattle.milenage.specs.Home.{resync_of, resynced}
+use Rattle.nas_elements.specs.declared.slice.Slice.{Slice}
+use Rattle.nas_security.specs.Contexts.{SecurityContext}
+use Rattle.nas_security.specs.declared.challenges.Challenge.{Challenge}
+use Rattle.amf_core.specs.Authentication.{answered, asking_in, asking_on, authentication_failed, authentication_rejected, commanding, failed_by, is_expected, mode_commanded, next_link, responded, resynchronised}
+use Rattle.amf_core.specs.Challenges.{challenge_open, ended}
+use Rattle.amf_core.specs.Drafts.{is_right}
+use Rattle.amf_core.specs.SecurityMode.{commanding_of, commanding_on, completed, goes_on, in_use, mode_completed, mode_rejected, switched, whole_in}
+use Rattle.amf_core.specs.Service.{service_requested}
+use Rattle.amf_core.specs.Transport.{brought_down, session_of, transported}
+use Rattle.amf_core.specs.Registration.{is_on}
+use Rattle.amf_core.specs.Work.{home_of, link_of}
+use Rattle.amf_core.specs.declared.acts.Protection.TheVariants.{Ciphered}
+use Rattle.amf_core.specs.declared.link.Link.{Link}
+use Rattle.amf_core.specs.declared.procedures.Challenging.{Challenging}
+use Rattle.amf_core.specs.declared.procedures.Phase.{Phase}
+use Rattle.amf_core.specs.declared.procedures.Phase.TheVariants.{Auth, Mode}
+use Rattle.amf_core.specs.declared.acceptance.Whole.{Whole}
+use Rattle.amf_core.specs.declared.authentication.Asking.{Asking}
+use Rattle.amf_core.specs.declared.procedures.Procedure.{Procedure}
+use Rattle.amf_core.specs.declared.procedures.Procedure.TheVariants as procedures
+use Rattle.amf_core.specs.declared.procedures.Purpose.{Purpose}
+use Rattle.amf_core.specs.declared.procedures.Purpose.TheVariants.{Registration, Command}
+use Rattle.amf_core.specs.declared.security_mode.Commanding.{Commanding}
+use Rattle.amf_core.specs.declared.subscriber.Subscriber.{Subscriber}
+use Rattle.amf_core.specs.declared.work.Work.{Work}
+use Rattle.amf_laws.proofs.Branching.{per_holds, when_holds}
+use Rattle.amf_laws.proofs.ChallengeRows.{MayRefuse, challenge_put_moves, challenge_runs, challenge_settles, ended_moves, say_on_moves, stopped_moves}
+use Rattle.amf_laws.proofs.LinkRecords.{same_number}
+use Rattle.amf_laws.proofs.Moves.{Beginning, MayLink, MayProtect, Own, by_link_may, links_now, own_protection_may, Moves, Settled, settled, told_as}
+use Rattle.amf_laws.proofs.Moves.Moves.{here, said, asked, starts, stops, puts, links, homes, numbers}
+use Rattle.amf_laws.proofs.RegistrationRows.{goes_on_settles}
+use Rattle.amf_laws.specs.Timers.{Running, none_runs, running_in}
+
+-- who is asked has a challenge open
+asking_runs : (number : ℕ) (procedure : Procedure) (o : Asking) → asking_on number procedure ≡ Some o → running_in procedure ≡ challenge_runs
+unfolding asking_on
+asking_runs number (procedures.Challenging c) o e = refl
+asking_runs number procedures.Idle o e = absurd (cc)
+asking_runs number (procedures.Accepting a) o e = absurd (cc)
+asking_runs number (procedures.Deregistering d) o e = absurd (cc)
+
+rejected_moves : {May : List ℕ → Type 0} {b : Beginning} {q : Running} {w : Work} (number : ℕ) (s : Subscriber) → Own May b s
+    → Moves May b (running_in s.procedure) q w → Moves May b none_runs none_runs (authentication_rejected number s w)
+rejected_moves {May} {b} {q} {w} number s e h = said number _ _ (by_link_may May (link_of number (ended s w)) s.supi e.2) (ended_moves s e h)
+
+answered_settles : {May : List ℕ → Type 0} {b : Beginning} {w : Work} (number : ℕ) (res_star : Option (List ℕ)) (o : Asking) (s : Subscriber) → Own May b s
+    → running_in s.procedure ≡ challenge_runs
+    → Moves May b (running_in s.procedure) (running_in s.procedure) w → Settled May b (answered number res_star o s w)
+answered_settles {May} {b} {w} number res_star o s e runs h =
+    when_holds (λ (x : Work). Settled May b x) (is_expected res_star o.auth) _ _
+    (λ _. settled (challenge_put_moves (commanding o) (challenge_open (commanding o) s) e (told_as _ challenge_runs runs h)))
+    (λ _. settled (rejected_moves number s e h))
+
+pub responded_settles : {May : List ℕ → Type 0} {b : Beginning} {w : Work} (number : ℕ) (res_star : Option (List ℕ)) (s : Subscriber) → Own May b s
+    → Moves May b (running_in s.procedure) (running_in s.procedure) w → Settled May b (responded number res_star s w)
+unfolding responded
+responded_settles {May} {b} {w} number res_star s e h =
+    per_holds (λ (x : Work). Settled May b x) (asking_on number s.procedure) w _ (λ _. settled h)
+    (λ o is. answered_settles number res_star o s e (asking_runs number s.procedure o is) h)
+
+-- the link of who is asked
+asking_link : (phase : Phase) (c : Challenging) (o : Asking) → asking_in phase c ≡ Some o → c.link ≡ o.challenging.link
+asking_link (Auth a) c o e =
+    let one : record { challenging = c; auth = a } ≡ o = cc in ap (λ (x : Asking). x.challenging.link) one
+asking_link (Mode context) c o e = absurd (cc)
+
+on_number : (number : ℕ) (link : Option ℕ) (k : ℕ) → is_on number link ≡ true → link ≡ Some k → k ≡ number
+on_number number link k =
+    per_holds (λ (x : Bool). x ≡ true → link ≡ Some k → k ≡ number) link false _
+    (λ _ on e. absurd (cc))
+    (λ other is on e. let one : other ≡ k = cc in sym one ∙ same_number other number on)
+
+asking_is_on : (number : ℕ) (c : Challenging) (o : Asking) (k : ℕ) → is_on number c.link ≡ true → asking_in c.phase c ≡ Some o
+    → o.challenging.link ≡ Some k → k ≡ number
+asking_is_on number c o k on is link =
+    let same : c.link ≡ o.challenging.link = asking_link c.phase c o is in
+    on_number number c.link k on (same ∙ link)
+
+asking_link_is : (number : ℕ) (procedure : Procedure) (o : Asking) → asking_on number procedure ≡ Some o
+    → (k : ℕ) → o.challenging.link ≡ Some k → k ≡ number
+unfolding asking_on
+asking_link_is number (procedures.Challenging c) o =
+    when_holds (λ (x : Option Asking). x ≡ Some o → (k : ℕ) → o.challenging.link ≡ Some k → k ≡ number) (is_on number c.link) _ None
+    (λ on is k link. asking_is_on number c o k on is link) (λ _ is k link. absurd (cc))
+asking_link_is number procedures.Idle o = λ is k link. absurd (cc)
+asking_link_is number (procedures.Accepting a) o = λ is k link. absurd (cc)
+asking_link_is number (procedures.Deregistering d) o = λ is k link. absurd (cc)
+
+again_may : (May : List ℕ → Type 0) (number : ℕ) (records : List Link) (purpose : Purpose) (c : Challenging) (s : Subscriber)
+    → ((k : ℕ) → c.link ≡ Some k → k ≡ number) → MayLink May number records → MayRefuse May purpose (next_link purpose c s) records
+again_may May number records (Registration request) c s same link =
+    λ k e. subst (λ (n : ℕ). MayLink May n records) (sym (same k e)) link
+again_may May number records Command c s same link = tt
+
+resynchronised_settles : {May : List ℕ → Type 0} {b : Beginning} {w : Work} (auts : List ℕ) (o : Asking) (s : Subscriber) → Own May b s
+    → MayRefuse May o.challenging.purpose (next_link o.challenging.purpose o.challenging s) (links_now w) → Moves May b (running_in s.procedure) (running_in s.procedure) w → Settled May b (resynchronised auts o s w)
+resynchronised_settles {May} {b} {w} auts o s e may h =
+    when_holds (λ (x : Work). Settled May b x) (is_right (resync_of s.supi o.auth.challenge.rand auts (home_of w))) _ w
+    (λ _. challenge_settles _ _ None s e may (homes _ h)) (λ _. settled h)
+
+failed_by_settles : {May : List ℕ → Type 0} {b : Beginning} {w : Work} (cause : ℕ) (auts : Option (List ℕ)) (number : ℕ) (o : Asking) (s : Subscriber) → Own May b s
+    → MayRefuse May o.challenging.purpose (next_link o.challenging.purpose o.challenging s) (links_now w)
+    → Moves May b (running_in s.procedure) (running_in s.procedure) w → Settled May b (failed_by cause auts number o s w)
+failed_by_settles {May} {b} {w} cause auts number o s e may h =
+    when_holds (λ (x : Work). Settled May b x) (cause == 20 || cause == 26) _ _
+    (λ _. settled (rejected_moves number s e h))
+    (λ _. when_holds (λ (x : Work). Settled May b x) (cause == 21) _ _
+    (λ _. per_holds (λ (x : Work). Settled May b x) auts w _ (λ _. settled h) (λ octets _. resynchronised_settles octets o s e may h))
+    (λ _. when_holds (λ (x : Work). Settled May b x) (cause == 71) _ w
+    (λ _. challenge_settles _ _ None s e may h) (λ _. settled h)))
+
+pub failed_settles : {May : List ℕ → Type 0} {b : Beginning} {w : Work} (number cause : ℕ) (auts : Option (List ℕ)) (s : Subscriber) → Own May b s
+    → MayLink May number (links_now w) → Moves May b (running_in s.procedure) (running_in s.procedure) w → Settled May b (authentication_failed number cause auts s w)
+unfolding authentication_failed
+failed_settles {May} {b} {w} number cause auts s e link h =
+    per_holds (λ (x : Work). Settled May b x) (asking_on number s.procedure) w _ (λ _. settled h)
+    (λ o is. failed_by_settles cause auts number o s e
+    (again_may May number (links_now w) o.challenging.purpose o.challenging s (asking_link_is number s.procedure o is) link) h)
+
+-- the answers to SECURITY MODE COMMAND
+pub mode_rejected_settles : {May : List ℕ → Type 0} {b : Beginning} {w : Work} (number : ℕ) (s : Subscriber) → Own May b s
+    → Moves May b (running_in s.procedure) (running_in s.procedure) w → Settled May b (mode_rejected number s w)
+unfolding mode_rejected
+mode_rejected_settles {May} {b} {w} number s e h =
+    per_holds (λ (x : Work). Settled May b x) (commanding_on number s.procedure) w _ (λ _. settled h) (λ o _. settled (ended_moves s e h))
+
+switched_moves : {May : List ℕ → Type 0} {b : Beginning} {q : Running} {w : Work} (o : Commanding) (s : Subscriber) → Own May b s
+    → Moves May b (running_in s.procedure) q w → Moves May b none_runs none_runs (switched o s w)
+switched_moves o s e h = asked _ s (puts (in_use o.context s) e (stopped_moves s e h))
+
+purpose_settles : {May : List ℕ → Type 0} {b : Beginning} {w : Work} (purpose : Purpose) (whole : Option Whole) (number : ℕ) (context : SecurityContext) (s : Subscriber)
+    → Own May b s → Moves May b none_runs none_runs w → Settled May b (goes_on purpose whole number context s w)
+purpose_settles {May} {b} {w} (Registration r) whole number context s e h =
+    per_holds (λ (x : Work). Settled May b x) whole w _ (λ _. settled h) (λ q _. goes_on_settles number r q context s e h)
+purpose_settles Command whole number context s e h = settled h
+
+pub mode_completed_settles : {May : List ℕ → Type 0} {b : Beginning} {w : Work} (number : ℕ) (message : Option (List ℕ)) (s : Subscriber) → Own May b s
+    → Moves May b (running_in s.procedure) (running_in s.procedure) w → Settled May b (mode_completed number message s w)
+unfolding mode_completed
+mode_completed_settles {May} {b} {w} number message s e h =
+    per_holds (λ (x : Work). Settled May b x) (commanding_of s.procedure) w _ (λ _. settled h)
+    (λ o _. purpose_settles o.challenging.purpose (whole_in message s) number o.context (in_use o.context s) e (switched_moves o s e h))
+
+-- service requests, and 5GSM messages
+pub service_settles : {May : List ℕ → Type 0} {b : Beginning} {w : Work} (number : ℕ) (s : Subscriber) → Own May b s
+    → Moves May b (running_in s.procedure) (running_in s.procedure) w → Settled May b (service_requested number s w)
+unfolding service_requested
+service_settles {May} {b} {w} number s e h =
+    when_holds (λ (x : Work). Settled May b x) s.registered _ _ (λ _. settled (said number (Ciphered s.supi) _ e.2 h))
+    (λ _. settled (said number _ _ (by_link_may May (link_of number w) s.supi e.2) h))
+
+pub transported_settles : {May : List ℕ → Type 0} {b : Beginning} {w : Work} (number : ℕ) (challenge : Challenge) (container_type : ℕ) (container : List ℕ) (psi : Option ℕ)
+    (slice : Option Slice) (dnn : Option (List ℕ)) (s : Subscriber) → Own May b s
+    → Moves May b (running_in s.procedure) (running_in s.procedure) w
+    → Settled May b (transported number challenge container_type container psi slice dnn s w)
+unfolding transported
+transported_settles {May} {b} {w} number challenge container_type container psi slice dnn s e h =
+    per_holds (λ (x : Work). Settled May b x) (session_of container_type psi) _ _ (λ _. settled (said number (Ciphered s.supi) _ e.2 h)) (λ n _. settled (asked _ s h))
+
+pub brought_down_moves : {May : List ℕ → Type 0} {b : Beginning} {p q : Running} {w : Work} (psi : ℕ) (frame : List ℕ) (s : Subscriber) → Own May b s
+    → Moves May b p q w → Moves May b p q (brought_down psi frame s w)
+unfolding brought_down
+brought_down_moves psi frame s e h = say_on_moves s.link (Ciphered s.supi) _ e.2 h

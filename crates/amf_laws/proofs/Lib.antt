@@ -1,0 +1,17 @@
+pub mod AnswerRows
+pub mod Branching
+pub mod Chains
+pub mod ChallengeRows
+pub mod DeliveryRows
+pub mod EventRows
+pub mod FitLaws
+pub mod FramedFit
+pub mod LinkRecords
+pub mod MarkLaws
+pub mod Moves
+pub mod PassedLaws
+pub mod Records
+pub mod RegistrationRows
+pub mod TimerLaws
+pub mod Told
+pub mod UncheckedLaws

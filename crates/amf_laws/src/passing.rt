@@ -1,0 +1,62 @@
+//! What passes a check, and what octets do that pass none.
+ghost use Rattle.std.specs.Prelude.{true};
+ghost use Rattle.amf_laws.specs.Passing.{FailedRequestsRejected, OpensWherePassing, SecuresWherePassing, UncheckedDoNothing, Uplinks};
+
+use amf_core::Amf;
+use milenage::Home;
+use nas_base::Moment;
+
+/// A message that an AMF takes as passed, passes (`nas_security`): each pass that a step tells is of a subscriber that was kept, whose
+/// context in use, or the one that was commanded on this link, has the challenge that is told, and under that the octets are the frame
+/// of a message at the count that is told (TS 24.501 clause 4.4.4.3).
+pub fn opened_where_passing(
+    amf: &Amf,
+    home: &Home,
+    now: Moment,
+    rand: &[u8; 16],
+    link: u16,
+    fresh: bool,
+    octets: &[u8],
+)
+    ensures { OpensWherePassing amf.now link octets.now (Uplinks amf.now home.now now rand.now link fresh octets.now) }
+{}
+
+/// The first message of a connection leaves its link not secure, whatever its octets are, unless they passed a check in this very step
+/// (TS 24.501 clause 4.4.2.5).
+pub fn fresh_uplink_clears_the_mark(
+    amf: &Amf,
+    home: &Home,
+    now: Moment,
+    rand: &[u8; 16],
+    link: u16,
+    octets: &[u8],
+)
+    ensures { SecuresWherePassing link (Uplinks amf.now home.now now rand.now link true octets.now) }
+{}
+
+/// On a link on which messages were exchanged securely, octets that pass no check and aren't the first of a connection change nothing,
+/// and are answered by nothing (TS 24.501 clause 4.4.4.3).
+pub fn unchecked_octets_on_a_secure_link_do_nothing(
+    amf: &Amf,
+    home: &Home,
+    now: Moment,
+    rand: &[u8; 16],
+    link: u16,
+    octets: &[u8],
+)
+    ensures { UncheckedDoNothing amf.now home.now now rand.now link octets.now }
+{}
+
+/// On a link that isn't secure a SERVICE REQUEST that passes no check, plain or in a frame of header type 1, is answered by SERVICE REJECT
+/// with cause 9, and changes no record of a subscriber (TS 24.501 clauses 4.4.4.3 and 5.6.1.5).
+pub fn failed_service_request_changes_nothing(
+    amf: &Amf,
+    home: &Home,
+    now: Moment,
+    rand: &[u8; 16],
+    link: u16,
+    fresh: bool,
+    octets: &[u8],
+)
+    ensures { FailedRequestsRejected amf.now home.now now rand.now link fresh octets.now }
+{}
