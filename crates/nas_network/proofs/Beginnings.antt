@@ -75,6 +75,9 @@ known plmn ss h =
 pub amf_subscribed : (plmn : PlmnIdentity) (ss : List SubscriberValues) → are_subscribers plmn ss ≡ true → amf.are_subscribers (at_amf ss) ≡ true
 amf_subscribed plmn ss h = let k = known plmn ss h in rw (length-map ss amf_of, k.few, distinct [] ss k.new) refl
 
+pub subscribed_once : (plmn : PlmnIdentity) (ss : List SubscriberValues) → are_subscribers plmn ss ≡ true → are_distinct (at_amf ss) ≡ true
+subscribed_once plmn ss h = distinct [] ss (known plmn ss h).new
+
 pub amf_begins : (n : NetValues) → IsNetwork n → IsAmf (amf_values n)
 amf_begins n h =
     let k = known n.plmn n.subscribers h.known in

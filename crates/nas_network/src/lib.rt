@@ -6,6 +6,7 @@ mod beginning;
 mod command;
 mod config;
 mod network;
+mod parts;
 #[cfg(test)]
 mod test_network;
 #[cfg(test)]

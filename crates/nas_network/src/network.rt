@@ -1,43 +1,34 @@
 //! The network.
-ghost use Rattle.std.specs.Prelude.{◌≡◌, max, take, IfOk, OnErr};
+ghost use Rattle.std.specs.Prelude.{◌≡◌, IfOk, OnErr};
 ghost use Rattle.amf_core.specs.State.{view_in};
-ghost use Rattle.nas_network.specs.Network.{Commands, answered, commanded, delivered, dropped, most_taken};
+ghost use Rattle.nas_network.specs.Network.{Commands, answered, commanded, delivered, dropped};
 ghost use Rattle.nas_network.specs.State.{first};
-ghost use Rattle.nas_network.specs.Ticks.{fired_at, ticked};
-ghost use Rattle.nas_network.specs.Turns.{begun, turned};
+ghost use Rattle.nas_network.specs.Ticks.{ticked};
 
-use crate::beginning::{amf_config, home_list};
-use crate::ticks::{due_list, first_due};
-use crate::timers::{SubscriberTimers, copies, none_run};
-use crate::turn::Gained;
+use crate::parts::NetworkParts;
 use crate::{NetCommand, NetConfig, NetDelivery, NetRefusal};
-use amf_core::{Amf, AmfInput, AmfRefusal, NetView};
-use milenage::Home;
-use nas_base::{Memory, Moment, Octets, Supi};
+use amf_core::NetView;
+use nas_base::{Memory, Moment, Supi};
 use std::alloc::Global;
 use std::marker::Model;
 
-// How many octets an AMF is handed at most.
-const MOST_TAKEN: usize = 4097;
-
-// No challenge starts where a link is lost.
-const NO_RAND: [u8; 16] = [0, 0, 0, 0, 0, 0, 0, 0, 0, 0, 0, 0, 0, 0, 0, 0];
-
-/// A network: its AMF, its home network, the timers that run for each subscriber, and the moment that it was told last.
+/// A network: its AMF, its home network, the timers that run for each subscriber, and the moment that it was told last. For each
+/// subscriber the timer of a procedure runs exactly while that procedure is open: T3560 while a challenge is, T3550 while an acceptance
+/// is, T3522 while a de-registration by the network is (TS 24.501 clause 10.2).
 #[derive(Drop)]
 pub struct Network {
-    pub(crate) amf: Amf,
-    pub(crate) home: Home,
-    pub(crate) timers: Vec<SubscriberTimers>,
-    pub(crate) moment: Moment,
+    parts: NetworkParts,
 }
 
 impl Model for Network {
+    ghost use Rattle.nas_network.specs.Owners.{HaveOwners};
     ghost use Rattle.nas_network.specs.State.{NetworkState};
 
     ghost Value = { NetworkState };
 
-    ghost view = { λ n. record { amf = n.amf; home = n.home; timers = n.timers.items; moment = n.moment } };
+    ghost view = { λ n. n.parts };
+
+    ghost invariant = { λ n. HaveOwners n.parts };
 }
 
 impl Network {
@@ -49,16 +40,9 @@ impl Network {
     pub fn new(alloc: Global, config: &NetConfig) -> Result<Network, Memory>
         ensures { IfOk result (λ network. network ≡ first config.now) }
     {
-        let subscribers = config.subscribers.as_slice();
-        let amf = Amf::new(alloc, &amf_config(alloc, config)?)?;
-        let home = Home::new(alloc, &home_list(alloc, subscribers)?)?;
-        let timers = none_run(alloc, subscribers)?;
-        Ok(Network {
-            amf,
-            home,
-            timers,
-            moment: Moment(0),
-        })
+        let _subscribers = &config.subscribers;
+        let parts = NetworkParts::new(alloc, config)?;
+        Ok(Network { parts })
     }
 
     /// An equal network.
@@ -69,15 +53,8 @@ impl Network {
     pub fn copy(&self, alloc: Global) -> Result<Network, Memory>
         ensures { IfOk result (λ copy. copy ≡ self.now) }
     {
-        let amf = self.amf.copy(alloc)?;
-        let home = self.home.copy(alloc)?;
-        let timers = copies(alloc, self.timers.as_slice())?;
-        Ok(Network {
-            amf,
-            home,
-            timers,
-            moment: self.moment,
-        })
+        let parts = self.parts.copy(alloc)?;
+        Ok(Network { parts })
     }
 
     /// A command. A challenge that starts in it has this RAND.
@@ -86,7 +63,6 @@ impl Network {
     ///
     /// `UnknownSupi` exactly where the SUPI is no subscriber; else `WrongState` exactly where its word isn't Registered or a procedure of
     /// it is open; else, of `Authenticate`, `SqnSpent` exactly where SQN_HE is 2^48 - 1. Or `Memory`. All is then as before.
-    #[tactic(auto, unfolding(crate::specs::Network::commanded))]
     pub fn command(
         &mut self,
         alloc: Global,
@@ -95,14 +71,7 @@ impl Network {
     ) -> Result<NetDelivery, NetRefusal>
         ensures { Commands self.old self.new result (commanded rand.now command.now self.old) }
     {
-        let mut gained = Gained::new(alloc);
-        match self.step(alloc, rand, &mut gained, &command.to_amf()) {
-            Ok(()) => Ok(gained.delivery()),
-            Err(AmfRefusal::UnknownSupi) => Err(NetRefusal::UnknownSupi),
-            Err(AmfRefusal::WrongState { state }) => Err(NetRefusal::WrongState { state }),
-            Err(AmfRefusal::SqnSpent { sqn }) => Err(NetRefusal::SqnSpent { sqn }),
-            Err(AmfRefusal::Memory) => Err(NetRefusal::Memory),
-        }
+        self.parts.command(alloc, rand, command)
     }
 
     /// Octets came up a link, 1 to 64; `fresh` where they are the first of a connection. A challenge that starts has this RAND.
@@ -121,15 +90,7 @@ impl Network {
         ensures ok { IfOk result (λ delivery. answered self.new delivery ≡ delivered rand.now link fresh octets.now self.old) }
         ensures err { OnErr result (self.new ≡ self.old) }
     {
-        let Ok(octets) = Octets::copy(alloc, most_of(octets)) else {
-            return Err(Memory);
-        };
-        let uplink = AmfInput::Uplink {
-            link,
-            fresh,
-            octets,
-        };
-        self.once(alloc, rand, &uplink)
+        self.parts.deliver(alloc, rand, link, fresh, octets)
     }
 
     /// The moment is told, and every timer that is due fires, once. A moment before the last one counts as that one. Each challenge that
@@ -138,7 +99,6 @@ impl Network {
     /// # Errors
     ///
     /// `Memory`; all is then as before.
-    #[tactic(auto, unfolding(crate::specs::Ticks::ticked))]
     pub fn tick(
         &mut self,
         alloc: Global,
@@ -148,14 +108,7 @@ impl Network {
         ensures ok { IfOk result (λ delivery. answered self.new delivery ≡ ticked rand.now now self.old) }
         ensures err { OnErr result (self.new ≡ self.old) }
     {
-        let moment = later(self.moment, now);
-        match first_due(moment, self.timers.as_slice()) {
-            Some(_) => self.fire_due(alloc, rand, moment),
-            None => {
-                self.moment = moment;
-                Ok(Gained::new(alloc).delivery())
-            }
-        }
+        self.parts.tick(alloc, rand, now)
     }
 
     /// A link is lost, 1 to 64.
@@ -167,66 +120,13 @@ impl Network {
         ensures ok { IfOk result (λ done. self.new ≡ (dropped link self.old).network) }
         ensures err { OnErr result (self.new ≡ self.old) }
     {
-        let _nothing = self.once(alloc, &NO_RAND, &AmfInput::Dropped { link })?;
-        Ok(())
+        self.parts.drop_link(alloc, link)
     }
 
     /// What can be seen of a subscriber, or None exactly where the SUPI is none's.
     pub fn view(&self, supi: &Supi) -> Option<NetView>
         ensures { result ≡ view_in supi.now self.now.amf }
     {
-        self.amf.view(supi)
+        self.parts.view(supi)
     }
-
-    // The turn of one step that no refusal meets.
-    fn once(
-        &mut self,
-        alloc: Global,
-        rand: &[u8; 16],
-        input: &AmfInput,
-    ) -> Result<NetDelivery, Memory>
-        ensures ok { IfOk result (λ delivery. answered self.new delivery ≡ turned rand.now input.now (begun self.old)) }
-        ensures err { OnErr result (self.new ≡ self.old) }
-    {
-        let mut gained = Gained::new(alloc);
-        self.turn(alloc, rand, &mut gained, input)?;
-        Ok(gained.delivery())
-    }
-
-    // The timers fire that are due at a moment, on a copy, which is taken over.
-    fn fire_due(
-        &mut self,
-        alloc: Global,
-        rand: &[u8; 16],
-        moment: Moment,
-    ) -> Result<NetDelivery, Memory>
-        ensures ok { IfOk result (λ delivery. answered self.new delivery ≡ fired_at rand.now moment self.old) }
-        ensures err { OnErr result (self.new ≡ self.old) }
-    {
-        let list = due_list(alloc, moment, self.timers.as_slice())?;
-        let mut network = self.copy(alloc)?;
-        network.moment = moment;
-        let mut gained = Gained::new(alloc);
-        network.fire_all(alloc, rand, &mut gained, list)?;
-        *self = network;
-        Ok(gained.delivery())
-    }
-}
-
-// As many of the octets as an AMF is handed.
-fn most_of(octets: &[u8]) -> &[u8]
-    ensures { result.now ≡ take most_taken octets.now }
-{
-    if octets.len() <= MOST_TAKEN {
-        return octets;
-    }
-    let (most, _) = octets.split_at(MOST_TAKEN);
-    most
-}
-
-// The later of two moments.
-fn later(one: Moment, other: Moment) -> Moment
-    ensures { result ≡ max one other }
-{
-    one.max(other)
 }

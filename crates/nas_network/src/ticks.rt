@@ -4,7 +4,7 @@ ghost use Rattle.nas_network.specs.State.{stopped_for};
 ghost use Rattle.nas_network.specs.Ticks.{all_fired, due_for, due_list, due_named, fired, first_due, found_with, is_due, is_sooner, sooner_of};
 ghost use Rattle.nas_network.specs.Turns.{gathered};
 
-use crate::Network;
+use crate::parts::NetworkParts;
 use crate::timers::{SubscriberTimers, copies, deadline_for, stop_for};
 use crate::turn::Gained;
 use amf_core::AmfInput;
@@ -124,7 +124,7 @@ pub fn due_list(
     Ok(list)
 }
 
-impl Network {
+impl NetworkParts {
     /// Timers that were due, one after the other.
     pub(crate) fn fire_all(
         &mut self,

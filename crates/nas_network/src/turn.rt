@@ -3,8 +3,9 @@ ghost use Rattle.std.specs.Prelude.{◌≡◌, ◌≤◌, ◌<◌, ◌+◌, [], 
 ghost use Rattle.std.specs.Vec.{vec_capacity, vec_len};
 ghost use Rattle.nas_network.specs.Turns.{StepsOn, all_taken, gathered, stepped, taken, turned};
 
+use crate::NetDelivery;
+use crate::parts::NetworkParts;
 use crate::timers::{start_for, stop_for};
-use crate::{NetDelivery, Network};
 use amf_core::{AmfInput, AmfOut, AmfOuts, AmfRefusal, follow};
 use nas_base::Memory;
 use nas_security::{Pass, Send, Sends};
@@ -40,7 +41,7 @@ impl Gained {
     }
 }
 
-impl Network {
+impl NetworkParts {
     /// The step of an input that no refusal meets.
     #[tactic(auto, unfolding(crate::specs::Turns::turned))]
     pub(crate) fn turn(

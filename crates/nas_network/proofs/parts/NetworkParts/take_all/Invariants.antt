@@ -1,7 +1,7 @@
 use Rattle.std.proofs.Common.{◌≡◌, ◌≤◌, ◌+◌, length}
 use Rattle.std.specs.Vec.{vec_capacity, vec_len}
 use Rattle.nas_network.specs.Turns.{all_taken, gathered}
-use Rattle.nas_network.proofs.network.Network.take_all.Given as goal
+use Rattle.nas_network.proofs.parts.NetworkParts.take_all.Given as goal
 
 -- what is left to be taken onto where the turn stands gives the whole, and there is room for it
 abbrev pub invariant-loop-out : goal.invariant-loop-out

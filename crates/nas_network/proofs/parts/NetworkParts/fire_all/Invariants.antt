@@ -1,7 +1,7 @@
 use Rattle.std.proofs.Common.{◌≡◌}
 use Rattle.nas_network.specs.Ticks.{all_fired}
 use Rattle.nas_network.specs.Turns.{gathered}
-use Rattle.nas_network.proofs.network.Network.fire_all.Given as goal
+use Rattle.nas_network.proofs.parts.NetworkParts.fire_all.Given as goal
 
 -- what is left to fire onto where the turn stands gives the whole
 abbrev pub invariant-loop-due : goal.invariant-loop-due
