@@ -9,7 +9,7 @@ use nas_base::Memory;
 use std::alloc::Global;
 
 /// What the AMF begins with.
-#[tactic(auto, using(crate::proofs::Beginnings::amf_subscribed, crate::proofs::Beginnings::amf_begins))]
+#[tactic(auto, using(crate::proofs::Beginnings::amf_subscribed))]
 pub fn amf_config(alloc: Global, config: &NetConfig) -> Result<AmfConfig, Memory>
     ensures { IfOk result (λ amf. amf ≡ amf_values config.now) }
 {
@@ -28,12 +28,17 @@ pub fn amf_config(alloc: Global, config: &NetConfig) -> Result<AmfConfig, Memory
 }
 
 /// What the home network begins with.
-#[tactic(auto, using(crate::proofs::Beginnings::home_begins))]
-pub fn home_list(alloc: Global, config: &NetConfig) -> Result<HomeList, Memory>
-    ensures { IfOk result (λ home. home ≡ at_home config.now.subscribers) }
+pub fn home_list(alloc: Global, subscribers: &[Subscriber]) -> Result<HomeList, Memory>
+    ensures { IfOk result (λ home. home ≡ at_home subscribers.now) }
 {
-    let items = home_subscribers(alloc, config.subscribers.as_slice())?;
-    Ok(HomeList { items })
+    let mut home = HomeList::new(alloc);
+    for subscriber in subscribers {
+        match home.push(subscriber.to_home()) {
+            Ok(()) => {}
+            Err(_) => return Err(Memory),
+        }
+    }
+    Ok(home)
 }
 
 // The subscribers as the AMF knows them.
@@ -43,22 +48,6 @@ fn amf_subscribers(alloc: Global, subscribers: &[Subscriber]) -> Result<Vec<AmfS
     let mut items = Vec::new(alloc);
     for subscriber in subscribers {
         if items.push(subscriber.to_amf()).is_err() {
-            return Err(Memory);
-        }
-    }
-    Ok(items)
-}
-
-// The subscribers as the home network knows them.
-fn home_subscribers(
-    alloc: Global,
-    subscribers: &[Subscriber],
-) -> Result<Vec<HomeSubscriber>, Memory>
-    ensures { IfOk result (λ items. items.items ≡ at_home subscribers.now) }
-{
-    let mut items = Vec::new(alloc);
-    for subscriber in subscribers {
-        if items.push(subscriber.to_home()).is_err() {
             return Err(Memory);
         }
     }

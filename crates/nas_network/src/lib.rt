@@ -5,7 +5,11 @@
 mod beginning;
 mod command;
 mod config;
+#[cfg(test)]
+mod ends_tests;
 mod network;
+#[cfg(test)]
+mod test_network;
 #[cfg(test)]
 mod tests;
 mod ticks;

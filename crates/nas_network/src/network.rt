@@ -17,6 +17,9 @@ use nas_base::{Memory, Moment, Octets, Supi};
 use std::alloc::Global;
 use std::marker::Model;
 
+// How many octets an AMF is handed at most.
+const MOST_TAKEN: usize = 4097;
+
 // No challenge starts where a link is lost.
 const NO_RAND: [u8; 16] = [0, 0, 0, 0, 0, 0, 0, 0, 0, 0, 0, 0, 0, 0, 0, 0];
 
@@ -46,9 +49,10 @@ impl Network {
     pub fn new(alloc: Global, config: &NetConfig) -> Result<Network, Memory>
         ensures { IfOk result (λ network. network ≡ first config.now) }
     {
+        let subscribers = config.subscribers.as_slice();
         let amf = Amf::new(alloc, &amf_config(alloc, config)?)?;
-        let home = Home::new(alloc, &home_list(alloc, config)?)?;
-        let timers = none_run(alloc, config.subscribers.as_slice())?;
+        let home = Home::new(alloc, &home_list(alloc, subscribers)?)?;
+        let timers = none_run(alloc, subscribers)?;
         Ok(Network {
             amf,
             home,
@@ -117,7 +121,9 @@ impl Network {
         ensures ok { IfOk result (λ delivery. answered self.new delivery ≡ delivered rand.now link fresh octets.now self.old) }
         ensures err { OnErr result (self.new ≡ self.old) }
     {
-        let octets = most_of(alloc, octets)?;
+        let Ok(octets) = Octets::copy(alloc, most_of(octets)) else {
+            return Err(Memory);
+        };
         let uplink = AmfInput::Uplink {
             link,
             fresh,
@@ -206,15 +212,12 @@ impl Network {
 }
 
 // As many of the octets as an AMF is handed.
-fn most_of(alloc: Global, octets: &[u8]) -> Result<Octets, Memory>
-    ensures { IfOk result (λ taken. taken ≡ take most_taken octets.now) }
+fn most_of(octets: &[u8]) -> &[u8]
+    ensures { result.now ≡ take most_taken octets.now }
 {
-    let most = match octets.get(..4097) {
-        Some(most) => most,
-        None => octets,
-    };
-    match Octets::copy(alloc, most) {
-        Ok(octets) => Ok(octets),
-        Err(_) => Err(Memory),
+    if octets.len() <= MOST_TAKEN {
+        return octets;
     }
+    let (most, _) = octets.split_at(MOST_TAKEN);
+    most
 }

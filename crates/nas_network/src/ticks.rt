@@ -57,20 +57,20 @@ impl SubscriberTimers {
         ensures { result ≡ due_for now self.now }
     {
         match self.timers.due(now) {
-            Some(id) => self.named(id),
+            Some(id) => self.named(&id),
             None => None,
         }
     }
 
     // The one of this name.
     #[tactic(auto, unfolding(nas_base::specs::Branches::per))]
-    fn named(&self, id: TimerId) -> Option<DueTimer>
-        ensures { result ≡ due_named id self.now }
+    fn named(&self, id: &TimerId) -> Option<DueTimer>
+        ensures { result ≡ due_named id.now self.now }
     {
-        match self.timers.deadline(id) {
+        match self.timers.deadline(*id) {
             Some(at) => Some(DueTimer {
                 supi: self.supi.copy(),
-                id,
+                id: *id,
                 at,
             }),
             None => None,
@@ -115,7 +115,7 @@ pub fn due_list(
         let Some(due) = first_due(now, left.as_slice()) else {
             break;
         };
-        stop_for(left.as_mut_slice(), &due.supi, due.id);
+        stop_for(left.as_mut_slice(), &due.supi, same(&due.id));
         if list.push(due).is_err() {
             return Err(Memory);
         }
@@ -154,7 +154,7 @@ impl Network {
         if !self.is_due(&due) {
             return Ok(());
         }
-        stop_for(self.timers.as_mut_slice(), &due.supi, due.id);
+        stop_for(self.timers.as_mut_slice(), &due.supi, same(&due.id));
         let expired = AmfInput::Expired {
             supi: due.supi,
             id: due.id,
@@ -167,9 +167,16 @@ impl Network {
     fn is_due(&self, due: &DueTimer) -> bool
         ensures { result ≡ is_due due.now self.now }
     {
-        match deadline_for(self.timers.as_slice(), &due.supi, due.id) {
+        match deadline_for(self.timers.as_slice(), &due.supi, same(&due.id)) {
             Some(at) => at <= self.moment,
             None => false,
         }
     }
+}
+
+// The same name once more.
+fn same(id: &TimerId) -> TimerId
+    ensures { result ≡ id.now }
+{
+    *id
 }

@@ -11,7 +11,7 @@ use Rattle.nas_network.specs.Network as network
 use Rattle.nas_network.specs.Ticks as network_ticks
 use Rattle.nas_network.specs.Turns as network_turns
 use Rattle.nas_network.specs.declared.command.NetRefusal.{NetRefusal}
-use Rattle.nas_world.specs.Events.{brought_to_net, brought_to_ue, commanded, delivered_to_net, delivered_to_ue, net_outcome, net_ticked, ordered, step_of, ue_outcome, ue_ticked, unsent}
+use Rattle.nas_world.specs.Events.{brought_to_net, brought_to_ue, delivered_to_net, delivered_to_ue, net_dropped, net_outcome, net_ticked, order_for, ordered, restarted, step_of, ue_commanded, ue_dropped, ue_outcome, ue_ticked, unsent}
 use Rattle.nas_world.specs.Logs.{sent_at}
 use Rattle.nas_world.specs.State.{WorldState}
 use Rattle.nas_world.specs.declared.event.Event.{Event}
@@ -66,9 +66,9 @@ delivery_to_ue None w = stays w w refl refl refl
 delivery_to_ue (Some s) w = to_ue s.octets w
 
 is_behind : (w : WorldState) (event : Event) → IsBehind w (step_of w event).0
-unfolding ordered delivered_to_net delivered_to_ue ue_ticked net_ticked
+unfolding ue_commanded ordered delivered_to_net delivered_to_ue ue_ticked net_ticked ue_dropped net_dropped restarted
 is_behind w (events.Command command) = of_command (handset.commanded command w.handset) w
-is_behind w (events.NetCommand order) = of_order (network.commanded w.random (commanded order w.supi) w.network) w
+is_behind w (events.NetCommand order) = of_order (network.commanded w.random (order_for order w.supi) w.network) w
 is_behind w (events.ToNet number) = delivery_to_net (sent_at number w.up) w
 is_behind w (events.ToUe number) = delivery_to_ue (sent_at number w.down) w
 is_behind w (events.InjectNet fresh octets) = to_net fresh octets w

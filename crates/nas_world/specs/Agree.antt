@@ -1,19 +1,15 @@
 -- Whether both ends agree on what they share.
 use Rattle.std.specs.Prelude.{ℕ, Bool, true, false, not, nat_le, ◌==◌, ◌&&◌, List, length, Option}
-use Rattle.std.specs.List.{list_any}
-use Rattle.std.specs.Str.{bytes_eq}
 use Rattle.nas_base.specs.Branches.{per, when◌then◌else◌}
-use Rattle.nas_elements.specs.Algs.{Algorithms}
 use Rattle.nas_elements.specs.declared.guti.Guti.{Guti}
-use Rattle.key_chain.specs.declared.nas.NasKeys.{NasKeys}
 use Rattle.amf_core.specs.Naming.{is_any, is_guti, is_kept_for_another}
 use Rattle.amf_core.specs.State.{view_in}
 use Rattle.amf_core.specs.declared.view.NetView.{NetView}
 use Rattle.nas_security.specs.Contexts.{SecurityContext}
 use Rattle.ue_mm.specs.State.{view_of}
 use Rattle.ue_mm.specs.declared.view.UeView.{UeView}
-use Rattle.nas_world.specs.Logs.{is_challenge}
 use Rattle.nas_world.specs.State.{WorldState}
+use Rattle.nas_world.specs.Taken.{is_same, was_taken}
 
 -- what can be seen of the handset, and of its subscriber at the network
 abbrev pub at_handset : WorldState → UeView
@@ -21,18 +17,6 @@ at_handset w = view_of w.handset.mm
 
 abbrev pub at_network : WorldState → Option NetView
 at_network w = view_in w.supi w.network.amf
-
--- the same context: equal in challenge, ngKSI, KAMF, algorithms and both NAS keys
-abbrev pub are_same_algorithms : Algorithms → Algorithms → Bool
-are_same_algorithms one other = one.nea == other.nea && one.nia == other.nia
-
-abbrev pub are_same_keys : NasKeys → NasKeys → Bool
-are_same_keys one other = bytes_eq one.enc other.enc && bytes_eq one.int other.int
-
-abbrev pub is_same : SecurityContext → SecurityContext → Bool
-is_same one other =
-    is_challenge one.challenge other.challenge && one.ksi == other.ksi && bytes_eq one.kamf other.kamf
-    && are_same_algorithms one.algs other.algs && are_same_keys one.keys other.keys
 
 -- Keys: the network's context is one that the handset took into use; and where the handset's has the same ngKSI, it is the same one,
 -- and no end expects a count above the one that the other will use next.
@@ -43,7 +27,7 @@ abbrev pub fits : SecurityContext → SecurityContext → Bool
 fits net own = when own.ksi == net.ksi then is_same own net && counts_fit own net else true
 
 abbrev pub key_agrees : List SecurityContext → Option SecurityContext → SecurityContext → Bool
-key_agrees taken current net = list_any (is_same net) taken && per current true (fits net)
+key_agrees taken current net = was_taken net taken && per current true (fits net)
 
 unfoldable pub keys_agree : UeView → NetView → WorldState → Bool
 keys_agree ue net w = per net.in_use true (key_agrees w.taken ue.current)
@@ -56,11 +40,14 @@ unfoldable pub guti_agrees : UeView → NetView → WorldState → Bool
 guti_agrees ue net w = when ue.registered then per ue.guti false (is_kept net w) else true
 
 -- At most two are kept, and one alone once it is confirmed.
+abbrev pub is_alone : NetView → Bool
+is_alone net = when net.completed then length net.kept == 1 else true
+
 abbrev pub kept_fit : NetView → Bool
-kept_fit net = nat_le (length net.kept) 2 && (when net.completed then length net.kept == 1 else true)
+kept_fit net = nat_le (length net.kept) 2 && is_alone net
 
 abbrev pub both_agree : UeView → NetView → WorldState → Bool
-both_agree ue net w = keys_agree ue net w && guti_agrees ue net w && kept_fit net
+both_agree ue net w = keys_agree ue net w && (guti_agrees ue net w && kept_fit net)
 
 -- Both ends agree. A handset that is no subscriber isn't registered.
 unfoldable pub agree : WorldState → Bool

@@ -1,6 +1,6 @@
 -- Whether nobody forged: each message that passed a check had been sent by the other end, and each context that the handset took into
 -- use is one of the network's.
-use Rattle.std.specs.Prelude.{ℕ, ◌^◌, Bool, true, false, nat_lt, ◌&&◌, List, [], ◌∷◌, take, Option}
+use Rattle.std.specs.Prelude.{◌≡◌, ℕ, ◌^◌, Bool, true, false, nat_lt, nat_le, ◌&&◌, List, [], ◌∷◌, ◌++◌, length, take, Option, Some, None, option_map, if◌then◌else◌}
 use Rattle.std.specs.List.{list_all}
 use Rattle.std.specs.Str.{bytes_eq}
 use Rattle.nas_base.specs.Branches.{per}
@@ -8,25 +8,35 @@ use Rattle.nas_base.specs.Plmn.{PlmnIdentity}
 use Rattle.key_chain.specs.Keys.{kamf, kausf, kseaf}
 use Rattle.milenage.specs.Autn.{vector}
 use Rattle.milenage.specs.declared.vector.Vector.{Vector}
-use Rattle.amf_core.specs.Challenges.{abba}
-use Rattle.amf_core.specs.Keyed.{found}
 use Rattle.nas_security.specs.Contexts.{SecurityContext}
 use Rattle.nas_security.specs.declared.challenges.Challenge.{Challenge}
 use Rattle.nas_security.specs.declared.sends.Pass.{Pass}
 use Rattle.nas_security.specs.declared.sends.Send.{Send}
-use Rattle.nas_world.specs.Logs.{was_sent}
-use Rattle.nas_world.specs.State.{WorldState}
+use Rattle.nas_world.specs.Logs.{also, was_sent}
 use Rattle.nas_world.specs.declared.cards.Card.{Card}
 use Rattle.nas_world.specs.declared.passes.End.{End}
 use Rattle.nas_world.specs.declared.passes.End.TheVariants as ends
+use Rattle.nas_world.specs.declared.passes.Heard.{Heard}
 use Rattle.nas_world.specs.declared.passes.Passing.{Passing}
 
--- what the other end has sent
-abbrev pub of_other_end : End → WorldState → List Send
-of_other_end ends.Handset w = w.down
-of_other_end ends.Network w = w.up
+-- What was sent and what passed a check, with what it is judged by: the PLMN, and the keys of the network's subscribers.
+pub record JudgedLog : Type 0 where
+  pub up : List Send
+  pub down : List Send
+  pub passes : List Passing
+  pub plmn : PlmnIdentity
+  pub cards : List Card
 
--- KAMF of a subscriber and a challenge: from K, OPc and SUPI, with the ABBA that the network sends (TS 33.501 Annex A)
+-- of what was sent up and down, what the other end has sent
+abbrev pub sent_to : End → List Send → List Send → List Send
+sent_to ends.Handset up down = down
+sent_to ends.Network up down = up
+
+-- the ABBA that the network sends (TS 33.501 Annex A.7.1)
+abbrev pub abba : List ℕ
+abba = 0 ∷ 0 ∷ []
+
+-- KAMF of a subscriber and a challenge: from K, OPc and SUPI (TS 33.501 Annex A)
 abbrev pub vector_kamf : PlmnIdentity → List ℕ → Vector → List ℕ
 vector_kamf plmn supi v = kamf (kseaf (kausf v.ck v.ik plmn (take 6 v.autn)) plmn) supi abba
 
@@ -37,17 +47,53 @@ net_kamf plmn s c = vector_kamf plmn s.supi (vector s.k s.opc c.rand c.sqn s.fie
 abbrev pub is_of : List ℕ → Card → Bool
 is_of supi s = bytes_eq s.supi supi
 
-unfoldable pub has_net_kamf : Pass → WorldState → SecurityContext → Bool
-has_net_kamf pass w context =
-    per (found (is_of pass.supi) w.cards) false
-    (λ (s : Card). nat_lt pass.challenge.sqn (2 ^ 48) && bytes_eq context.kamf (net_kamf w.plmn s pass.challenge))
+abbrev pub card_in : List ℕ → List Card → Option Card
+card_in supi [] = None
+card_in supi (s ∷ cards) = if is_of supi s then Some s else card_in supi cards
 
--- one delivery that passed: the octets had been sent before, by the other end, for the same subscriber, under the same challenge, with
--- the same count; and the context, if one was taken, is the network's
-abbrev pub is_honest : WorldState → Passing → Bool
-is_honest w p =
-    was_sent p.pass p.octets (take p.before (of_other_end p.end w)) && per p.took true (has_net_kamf p.pass w)
+abbrev pub has_kamf_of : PlmnIdentity → Challenge → SecurityContext → Card → Bool
+has_kamf_of plmn c context s = nat_lt c.sqn (2 ^ 48) && bytes_eq context.kamf (net_kamf plmn s c)
+
+unfoldable pub has_net_kamf : PlmnIdentity → List Card → Pass → SecurityContext → Bool
+has_net_kamf plmn cards pass context = per (card_in pass.supi cards) false (has_kamf_of plmn pass.challenge context)
+
+-- one delivery that passed, by what the other end had sent before: for the same subscriber, under the same challenge, with the same count,
+-- the same octets; and the context, if one was taken, is the network's
+abbrev pub is_fair : Passing → List Send → JudgedLog → Bool
+is_fair p before j = was_sent p.pass p.octets before && per p.took true (has_net_kamf j.plmn j.cards p.pass)
+
+abbrev pub is_honest : JudgedLog → Passing → Bool
+is_honest j p = is_fair p (take p.before (sent_to p.end j.up j.down)) j
 
 -- all of them
-unfoldable pub honest : WorldState → Bool
-honest w = list_all (is_honest w) w.passes
+unfoldable pub all_honest : JudgedLog → Bool
+all_honest j = list_all (is_honest j) j.passes
+
+-- what is kept of the verdict: it is that of all, and each delivery was judged by messages that are there
+abbrev pub is_within : JudgedLog → Passing → Bool
+is_within j p = nat_le p.before (length (sent_to p.end j.up j.down))
+
+pub record AreJudged (j : JudgedLog) (verdict : Bool) : Type 0 where
+  pub within : list_all (is_within j) j.passes ≡ true
+  pub judged : verdict ≡ all_honest j
+
+-- messages of one direction more
+abbrev pub with_sent_up : List Send → JudgedLog → JudgedLog
+with_sent_up sends j = record j { up = j.up ++ sends }
+
+abbrev pub with_sent_down : List Send → JudgedLog → JudgedLog
+with_sent_down sends j = record j { down = j.down ++ sends }
+
+-- what passed a check, and how much the other end had sent before
+abbrev pub passing : End → Heard → ℕ → Pass → Passing
+passing end h before pass = record { end = end; pass = pass; octets = h.octets; before = before; took = h.took }
+
+abbrev pub passed : End → Heard → ℕ → List Passing → List Passing
+passed end h before passes = also passes (option_map (passing end h before) h.passed)
+
+-- octets that reached the handset; octets that reached the network
+abbrev pub heard_up : Heard → JudgedLog → JudgedLog
+heard_up h j = record j { up = j.up ++ h.sends; passes = passed ends.Handset h (length j.down) j.passes }
+
+abbrev pub heard_down : Heard → JudgedLog → JudgedLog
+heard_down h j = record j { down = j.down ++ h.sends; passes = passed ends.Network h (length j.up) j.passes }

@@ -1,5 +1,5 @@
 -- Both ends, and all that was logged of them.
-use Rattle.std.specs.Prelude.{ℕ, List, [], map, replicate}
+use Rattle.std.specs.Prelude.{ℕ, Bool, List, [], map, replicate}
 use Rattle.nas_base.specs.Plmn.{PlmnIdentity}
 use Rattle.nas_security.specs.Contexts.{SecurityContext}
 use Rattle.nas_security.specs.declared.sends.Send.{Send}
@@ -7,8 +7,9 @@ use Rattle.nas_handset.specs.State as handset
 use Rattle.nas_handset.specs.State.{HandsetState}
 use Rattle.nas_network.specs.State as network
 use Rattle.nas_network.specs.State.{NetworkState}
-use Rattle.nas_network.specs.Config.{SubscriberValues}
+use Rattle.nas_world.specs.Cards.{card_of}
 use Rattle.nas_world.specs.Config.{WorldValues}
+use Rattle.nas_world.specs.Honest.{JudgedLog, all_honest}
 use Rattle.nas_world.specs.declared.cards.Card.{Card}
 use Rattle.nas_world.specs.declared.passes.Passing.{Passing}
 
@@ -26,10 +27,6 @@ pub record WorldState : Type 0 where
   pub cards : List Card
   pub supi : List ℕ
 
--- the keys of a subscriber
-abbrev pub card_of : SubscriberValues → Card
-card_of s = record { supi = s.supi; k = s.k; opc = s.opc; field = s.field }
-
 -- before any event
 abbrev pub first : WorldValues → WorldState
 first config = record {
@@ -44,3 +41,10 @@ first config = record {
   cards = map card_of config.net.subscribers;
   supi = config.handset.supi;
 }
+
+-- what is judged of it, and whether nobody forged
+abbrev pub judged_of : WorldState → JudgedLog
+judged_of w = record { up = w.up; down = w.down; passes = w.passes; plmn = w.plmn; cards = w.cards }
+
+abbrev pub honest : WorldState → Bool
+honest w = all_honest (judged_of w)

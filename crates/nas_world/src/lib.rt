@@ -2,20 +2,27 @@
 //! handset, a network, and the events that a script makes happen between them.
 #![tactic(auto)]
 
+mod agreement;
 mod cards;
+mod commands;
 mod config;
+mod deliveries;
 mod event;
+mod honesty;
 mod logs;
+mod moments;
 mod passes;
 mod script;
 mod seen;
+mod sent;
+mod taken;
 mod world;
 
 pub use crate::cards::Card;
 pub use crate::config::WorldConfig;
 pub use crate::event::{Event, NetOrder, RefusedWord};
 pub use crate::logs::{SentLog, TakenLog};
-pub use crate::passes::{End, Passing};
+pub use crate::passes::{End, Heard, Passing};
 pub use crate::script::{Script, ScriptLine};
 pub use crate::seen::Seen;
 pub use crate::world::World;

@@ -1,0 +1,4 @@
+pub mod Finding
+pub mod Index
+pub mod Judged
+pub mod Outcomes
