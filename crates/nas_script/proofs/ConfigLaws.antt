@@ -1,5 +1,5 @@
 -- One more subscriber.
-use Rattle.std.proofs.Common.{◌≡◌, ℕ, true, false, List, [], ◌∷◌, ◌++◌, Ok, refl, arith}
+use Rattle.std.proofs.Common.{◌≡◌, true, false, List, [], ◌∷◌, ◌++◌, Ok, refl, arith}
 use Rattle.std.specs.List.{list_all}
 use Rattle.std.proofs.lemmas.Grind.{common_steps}
 use Rattle.std.proofs.lemmas.List.Folds.{list_all-append}
@@ -8,7 +8,6 @@ use Rattle.nas_base.specs.Plmn.{PlmnIdentity}
 use Rattle.nas_base.specs.Supi.{is_of_plmn}
 use Rattle.nas_network.specs.Config.{SubscriberValues, are_new, has_plmn, is_subscriber}
 use Rattle.nas_script.specs.Subscribers.{subscriber_in, subscribers_in}
-use Rattle.nas_script.specs.declared.key.Key.{Key}
 
 pub are_new-push : (before ss : List SubscriberValues) (s : SubscriberValues) → are_new before ss ≡ true → is_subscriber s.supi (before ++ ss) ≡ false →
     are_new before (ss ++ s ∷ []) ≡ true

@@ -1,5 +1,5 @@
 -- The values of single keys.
-use Rattle.std.specs.Prelude.{ℕ, ◌-◌, List, [], ◌∷◌, length, codes, nat_lt, nat_le, ◌==◌, ◌||◌, ◌&&◌, ◌^◌, Option, Some, None, option_map, if◌then◌else◌}
+use Rattle.std.specs.Prelude.{ℕ, ◌-◌, List, [], ◌∷◌, length, codes, nat_lt, ◌==◌, ◌||◌, ◌&&◌, Option, Some, None, option_map, if◌then◌else◌}
 use Rattle.std.specs.Char.{is_ascii_digit}
 use Rattle.std.specs.Option.{option_and_then}
 use Rattle.std.specs.Result.{result_ok}

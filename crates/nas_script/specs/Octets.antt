@@ -1,5 +1,5 @@
 -- Octets in hex digits.
-use Rattle.std.specs.Prelude.{ℕ, List, [], ◌∷◌, codes, length, nat_le, nat_eq, ◌&&◌, Option, Some, None, if◌then◌else◌}
+use Rattle.std.specs.Prelude.{ℕ, List, [], codes, length, nat_le, nat_eq, ◌&&◌, Option, Some, None, if◌then◌else◌}
 use Rattle.std.specs.Cmp.Lexicographic.{pointwise}
 use Rattle.std.specs.Option.{option_and_then}
 use Rattle.std.specs.Result.{result_ok}

@@ -1,5 +1,5 @@
 -- The table of the timers, and its keys, in the order in which they are checked. All of them may be left out.
-use Rattle.std.specs.Prelude.{ℕ, List, codes, Option, Some, None, Result, Ok, Err}
+use Rattle.std.specs.Prelude.{ℕ, List, codes, Option, Some, None, Result, Ok}
 use Rattle.std.specs.Option.{option_and_then}
 use Rattle.toml.specs.Data.{Data, as_integer, get}
 use Rattle.nas_timers.specs.Durations.{DurationParts, standard_durations}

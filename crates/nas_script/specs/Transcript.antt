@@ -7,8 +7,7 @@ use Rattle.nas_world.specs.Script.{Line}
 use Rattle.nas_security.specs.declared.sends.Send.{Send}
 use Rattle.nas_world.specs.Agree.{agree, at_handset, at_network}
 use Rattle.nas_world.specs.Events.{step_of}
-use Rattle.nas_world.specs.Honest.{honest}
-use Rattle.nas_world.specs.State.{WorldState, first}
+use Rattle.nas_world.specs.State.{WorldState, first, honest}
 use Rattle.nas_world.specs.declared.event.RefusedWord.{RefusedWord}
 use Rattle.nas_world.specs.declared.event.RefusedWord.TheVariants.{WrongState, Spent, UnknownSupi, SqnSpent}
 use Rattle.nas_world.specs.declared.seen.Seen.{Seen}

@@ -75,7 +75,7 @@ fn write_head<O: Sink>(alloc: Global, out: &mut O) -> Result<(), TranscriptFault
 }
 
 // Makes an event happen, and writes its lines.
-#[tactic(auto, using(crate::proofs::WorldLaws::keeps_supi))]
+#[tactic(auto, using(crate::proofs::WorldLaws::keeps_supi, crate::proofs::WorldLaws::keeps_ups, crate::proofs::WorldLaws::keeps_downs))]
 fn write_event<O: Sink>(
     alloc: Global,
     number: u32,

@@ -1,5 +1,5 @@
 -- The next table gives one more subscriber of this network, whose SUPI is new.
-use Rattle.std.proofs.Common.{◌≡◌, ◌∙◌, ℕ, ◌+◌, true, false, List, [], ◌∷◌, map, drop, ap, refl, sym}
+use Rattle.std.proofs.Common.{◌≡◌, ◌∙◌, ◌+◌, List, [], ◌∷◌, map, drop, ap, refl, sym}
 use Rattle.std.proofs.lemmas.List.{drop_more, length-append}
 use Rattle.toml.specs.View.{view}
 use Rattle.toml.specs.declared.value.Value.{Value}
