@@ -1,5 +1,6 @@
 //! The network.
 ghost use Rattle.std.specs.Prelude.{◌≡◌, IfOk, OnErr};
+ghost use Rattle.amf_core.specs.Naming.{is_kept_for_another};
 ghost use Rattle.amf_core.specs.State.{view_in};
 ghost use Rattle.nas_network.specs.Network.{Commands, answered, commanded, delivered, dropped};
 ghost use Rattle.nas_network.specs.State.{first};
@@ -9,6 +10,7 @@ use crate::parts::NetworkParts;
 use crate::{NetCommand, NetConfig, NetDelivery, NetRefusal};
 use amf_core::NetView;
 use nas_base::{Memory, Moment, Supi};
+use nas_elements::Guti;
 use std::alloc::Global;
 use std::marker::Model;
 
@@ -128,5 +130,12 @@ impl Network {
         ensures { result ≡ view_in supi.now self.now.amf }
     {
         self.parts.view(supi)
+    }
+
+    /// Whether a 5G-GUTI is kept for another subscriber than the one of this SUPI. It walks over all records.
+    pub fn keeps_for_another(&self, supi: &Supi, guti: &Guti) -> bool
+        ensures { result ≡ is_kept_for_another supi.now guti.now self.now.amf.subscribers }
+    {
+        self.parts.keeps_for_another(supi, guti)
     }
 }

@@ -1,5 +1,6 @@
 //! The parts of a network.
 ghost use Rattle.std.specs.Prelude.{◌≡◌, max, take, IfOk, OnErr};
+ghost use Rattle.amf_core.specs.Naming.{is_kept_for_another};
 ghost use Rattle.amf_core.specs.State.{view_in};
 ghost use Rattle.nas_network.specs.Network.{Commands, answered, commanded, delivered, dropped, most_taken};
 ghost use Rattle.nas_network.specs.State.{first};
@@ -14,6 +15,7 @@ use crate::{NetCommand, NetConfig, NetDelivery, NetRefusal};
 use amf_core::{Amf, AmfInput, AmfRefusal, NetView};
 use milenage::Home;
 use nas_base::{Memory, Moment, Octets, Supi};
+use nas_elements::Guti;
 use std::alloc::Global;
 use std::marker::Model;
 
@@ -177,6 +179,13 @@ impl NetworkParts {
         ensures { result ≡ view_in supi.now self.now.amf }
     {
         self.amf.view(supi)
+    }
+
+    /// Whether a 5G-GUTI is kept for another subscriber than the one of this SUPI.
+    pub fn keeps_for_another(&self, supi: &Supi, guti: &Guti) -> bool
+        ensures { result ≡ is_kept_for_another supi.now guti.now self.now.amf.subscribers }
+    {
+        self.amf.keeps_for_another(supi, guti)
     }
 
     // The turn of one step that no refusal meets.
