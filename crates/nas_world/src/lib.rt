@@ -7,6 +7,8 @@ mod cards;
 mod commands;
 mod config;
 mod deliveries;
+#[cfg(test)]
+mod ends_tests;
 mod event;
 mod honesty;
 mod logs;
@@ -16,6 +18,8 @@ mod script;
 mod seen;
 mod sent;
 mod taken;
+#[cfg(test)]
+mod test_network;
 #[cfg(test)]
 mod tests;
 mod world;
