@@ -16,6 +16,8 @@ mod script;
 mod seen;
 mod sent;
 mod taken;
+#[cfg(test)]
+mod tests;
 mod world;
 
 pub use crate::cards::Card;

@@ -198,9 +198,11 @@ fn give(alloc: Global, world: &mut World, line: &str) -> Result<String, Fail> {
     let text = told(alloc, &seen)?;
     let honest = word(world.honest());
     let agree = word(world.agree());
-    Ok(format!(in alloc; "{text} {honest} {agree}")
-        .ok()
-        .ok_or("memory")?)
+    Ok(
+        format!(in alloc; "{text} {honest} {agree}")
+            .ok()
+            .ok_or("memory")?,
+    )
 }
 
 fn run<R: Abort + AllocGlobal>(rt: &R, world: &mut World, lines: &[&str]) -> Result<(), Fail> {
