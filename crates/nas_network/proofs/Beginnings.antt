@@ -1,12 +1,11 @@
 -- What an AMF and a home network begin with.
-use Rattle.std.proofs.Common.{◌≡◌, ◌∙◌, refl, sym, ap, ap₂, absurd, ℕ, Bool, true, false, not, ◌&&◌, ◌||◌, nat_le, List, [], ◌∷◌, ◌++◌, length, map, if◌then◌else◌, arith}
+use Rattle.std.proofs.Common.{◌≡◌, refl, ℕ, Bool, true, false, not, ◌&&◌, ◌||◌, nat_le, List, [], ◌∷◌, ◌++◌, length, if◌then◌else◌, arith}
 use Rattle.std.specs.List.{list_all}
 use Rattle.std.specs.Str.{bytes_eq}
 use Rattle.std.proofs.lemmas.Bool.{and_parts}
 use Rattle.std.proofs.lemmas.List.{length-map}
 use Rattle.std.proofs.lemmas.Slice.Eq.{bytes_eq-Decides}
 use Rattle.nas_base.specs.Plmn.{PlmnIdentity}
-use Rattle.nas_base.specs.Supi.{is_of_plmn}
 use Rattle.amf_core.specs.Config.{IsAmf, are_distinct, are_of_plmn, has_same_supi}
 use Rattle.amf_core.specs.Config as amf
 use Rattle.nas_network.specs.Config.{IsNetwork, NetValues, SubscriberValues, amf_of, amf_values, are_new, are_subscribers, at_amf, has_plmn, is_subscriber}
@@ -74,7 +73,7 @@ known plmn ss h =
     record { few = sizes.1; network = network.1; new = last.1 }
 
 pub amf_subscribed : (plmn : PlmnIdentity) (ss : List SubscriberValues) → are_subscribers plmn ss ≡ true → amf.are_subscribers (at_amf ss) ≡ true
-amf_subscribed plmn ss h = let k = known plmn ss h in rw (length-map amf_of ss, k.few, distinct [] ss k.new) refl
+amf_subscribed plmn ss h = let k = known plmn ss h in rw (length-map ss amf_of, k.few, distinct [] ss k.new) refl
 
 pub amf_begins : (n : NetValues) → IsNetwork n → IsAmf (amf_values n)
 amf_begins n h =

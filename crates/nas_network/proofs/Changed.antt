@@ -1,5 +1,5 @@
 -- The timers of one of the subscribers.
-use Rattle.std.proofs.Common.{◌≡◌, ◌∙◌, sym, ap, ap₂, ℕ, ◌<◌, ◌+◌, true, List, ◌∷◌, ◌++◌, length, take, drop, set, get_or, refl, arith}
+use Rattle.std.proofs.Common.{◌≡◌, ◌∙◌, sym, ap, ap₂, ℕ, ◌<◌, ◌+◌, true, List, ◌∷◌, ◌++◌, length, take, drop, set, get_or, refl}
 use Rattle.std.specs.Str.{bytes_eq}
 use Rattle.std.proofs.lemmas.List.{drop-set, drop_more, take-append-drop, take-set}
 use Rattle.nas_timers.specs.Timers.{Running}

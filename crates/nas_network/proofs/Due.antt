@@ -1,10 +1,11 @@
 -- The list of timers that are due, as it is found one by one.
-use Rattle.std.proofs.Common.{◌≡◌, ℕ, zero, suc, ◌+◌, ◌-◌, ◌<◌, List, [], ◌∷◌, ◌++◌, Some, None, refl, arith}
+use Rattle.std.proofs.Common.{◌≡◌, ℕ, zero, suc, ◌+◌, ◌-◌, ◌<◌, List, [], ◌∷◌, ◌++◌, Some, None, max, refl, sym, arith}
 use Rattle.std.proofs.lemmas.Grind.{common_steps}
 use Rattle.nas_base.specs.Branches.{per}
 use Rattle.nas_network.specs.State.{NetworkState, SubscriberTimers, stopped_for}
-use Rattle.nas_network.specs.Ticks.{DueTimer, due_within, fired_at, first_due, told}
-use Rattle.nas_network.specs.Turns.{begun}
+use Rattle.nas_network.specs.Network.{answered}
+use Rattle.nas_network.specs.Ticks.{DueTimer, due_within, first_due, ticked, told}
+use Rattle.nas_network.specs.declared.command.NetDelivery.{NetDelivery}
 
 none_within : (n now : ℕ) (ss : List SubscriberTimers) → first_due now ss ≡ None → due_within n now ss ≡ []
 unfolding per due_within
@@ -34,5 +35,7 @@ due_all zero now ss list whole none all = grind (arith, common_steps)
 due_all (suc n) now ss list whole none all = absurd (omega arith)
 
 -- where none is due, nothing comes of a tick but its moment
-pub none_due : (rand : List ℕ) (moment : ℕ) (n : NetworkState) → first_due moment n.timers ≡ None → fired_at rand moment n ≡ begun (told moment n)
-none_due rand moment n none = rw (none_within 6144 moment n.timers none) refl
+pub nothing_due : (rand : List ℕ) (now moment : ℕ) (n : NetworkState) (d : NetDelivery) → moment ≡ max n.moment now → first_due moment n.timers ≡ None →
+    d ≡ record { sends = []; passed = None } → answered (told moment n) d ≡ ticked rand now n
+unfolding ticked
+nothing_due rand now moment n d later none nothing = rw (sym later, none_within 6144 moment n.timers none, nothing) refl

@@ -1,7 +1,5 @@
 -- What a network answers to each event.
-use Rattle.std.specs.Prelude.{◌≡◌, ℕ, Bool, List, [], ◌∷◌, take, Option, Result, Ok, Err}
-use Rattle.nas_security.specs.declared.sends.Pass.{Pass}
-use Rattle.nas_security.specs.declared.sends.Send.{Send}
+use Rattle.std.specs.Prelude.{◌≡◌, ℕ, Bool, List, [], ◌∷◌, take, Result, Ok, Err}
 use Rattle.amf_core.specs.Step.{Stepped}
 use Rattle.amf_core.specs.declared.inputs.AmfInput.{AmfInput}
 use Rattle.amf_core.specs.declared.inputs.AmfInput.TheVariants as inputs

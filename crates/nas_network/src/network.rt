@@ -1,5 +1,5 @@
 //! The network.
-ghost use Rattle.std.specs.Prelude.{◌≡◌, take, IfOk, OnErr};
+ghost use Rattle.std.specs.Prelude.{◌≡◌, max, take, IfOk, OnErr};
 ghost use Rattle.amf_core.specs.State.{view_in};
 ghost use Rattle.nas_network.specs.Network.{Commands, answered, commanded, delivered, dropped, most_taken};
 ghost use Rattle.nas_network.specs.State.{first};
@@ -138,7 +138,7 @@ impl Network {
     /// # Errors
     ///
     /// `Memory`; all is then as before.
-    #[tactic(auto, using(crate::proofs::Due::none_due))]
+    #[tactic(auto, unfolding(crate::specs::Ticks::ticked))]
     pub fn tick(
         &mut self,
         alloc: Global,
@@ -148,12 +148,14 @@ impl Network {
         ensures ok { IfOk result (λ delivery. answered self.new delivery ≡ ticked rand.now now self.old) }
         ensures err { OnErr result (self.new ≡ self.old) }
     {
-        let moment = self.moment.max(now);
-        if first_due(moment, self.timers.as_slice()).is_some() {
-            return self.fire_due(alloc, rand, moment);
+        let moment = later(self.moment, now);
+        match first_due(moment, self.timers.as_slice()) {
+            Some(_) => self.fire_due(alloc, rand, moment),
+            None => {
+                self.moment = moment;
+                Ok(Gained::new(alloc).delivery())
+            }
         }
-        self.moment = moment;
-        Ok(Gained::new(alloc).delivery())
     }
 
     /// A link is lost, 1 to 64.
@@ -220,4 +222,11 @@ fn most_of(octets: &[u8]) -> &[u8]
     }
     let (most, _) = octets.split_at(MOST_TAKEN);
     most
+}
+
+// The later of two moments.
+fn later(one: Moment, other: Moment) -> Moment
+    ensures { result ≡ max one other }
+{
+    one.max(other)
 }

@@ -1,5 +1,6 @@
 //! The timers that are due at a moment.
 ghost use Rattle.std.specs.Prelude.{◌≡◌, Some, IfOk, OnOk};
+ghost use Rattle.nas_network.specs.State.{stopped_for};
 ghost use Rattle.nas_network.specs.Ticks.{all_fired, due_for, due_list, due_named, fired, first_due, found_with, is_due, is_sooner, sooner_of};
 ghost use Rattle.nas_network.specs.Turns.{gathered};
 
@@ -24,6 +25,7 @@ pub struct DueTimer {
 }
 
 impl Model for DueTimer {
+    ghost use Rattle.nas_network.specs.State.{stopped_for};
     ghost use Rattle.nas_network.specs.Ticks.{DueTimer as Parts};
 
     ghost Value = { Parts };
@@ -101,7 +103,6 @@ pub fn first_due(now: Moment, timers: &[SubscriberTimers]) -> Option<DueTimer>
 }
 
 /// The timers that are due at a moment, by deadline, then by name, then by the subscriber's place.
-#[tactic(auto, using(crate::proofs::Due::due_found, crate::proofs::Due::due_ended, crate::proofs::Due::due_all))]
 pub fn due_list(
     alloc: Global,
     now: Moment,
@@ -115,7 +116,7 @@ pub fn due_list(
         let Some(due) = first_due(now, left.as_slice()) else {
             break;
         };
-        stop_for(left.as_mut_slice(), &due.supi, same(&due.id));
+        stop_due(&mut left, &due);
         if list.push(due).is_err() {
             return Err(Memory);
         }
@@ -172,6 +173,13 @@ impl Network {
             None => false,
         }
     }
+}
+
+// One of them is stopped.
+fn stop_due(timers: &mut Vec<SubscriberTimers>, due: &DueTimer)
+    ensures { timers.new.items ≡ stopped_for due.now.supi due.now.id timers.old.items }
+{
+    stop_for(timers.as_mut_slice(), &due.supi, same(&due.id));
 }
 
 // The same name once more.
