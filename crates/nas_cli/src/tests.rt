@@ -506,11 +506,11 @@ fn limits_hold_at_their_edges(rt: HostRuntime) -> Result<(), Fail> {
     compare(&rt, alloc, CONFIG.as_bytes(), line.as_bytes(), 4, wrong)
 }
 
-// A script of so many lines `register`.
-fn registers(alloc: Global, count: u32) -> Result<Vec<u8>, Fail> {
+// A script of so many lines `to-ue 1`, which do nothing.
+fn deliveries(alloc: Global, count: u32) -> Result<Vec<u8>, Fail> {
     let mut script = Vec::new(alloc);
     for _ in 0..count {
-        script.extend_from_slice(b"register\n")?;
+        script.extend_from_slice(b"to-ue 1\n")?;
     }
     Ok(script)
 }
@@ -518,7 +518,7 @@ fn registers(alloc: Global, count: u32) -> Result<Vec<u8>, Fail> {
 #[test]
 fn a_script_has_at_most_65536_events(rt: HostRuntime) -> Result<(), Fail> {
     let alloc = rt.alloc();
-    let more = registers(alloc, 65537)?;
+    let more = deliveries(alloc, 65537)?;
     compare(
         &rt,
         alloc,
@@ -529,7 +529,7 @@ fn a_script_has_at_most_65536_events(rt: HostRuntime) -> Result<(), Fail> {
     )?;
 
     let words = run_words(alloc)?;
-    let most = registers(alloc, 65536)?;
+    let most = deliveries(alloc, 65536)?;
     let mut files = files(alloc, CONFIG.as_bytes(), most.as_slice())?;
     let mut out = MemorySink::new(alloc);
     assert_eq!(rt; nas(alloc, &words, &mut files, &mut out).0, 0);
