@@ -19,11 +19,8 @@ mod seen;
 mod sent;
 mod taken;
 #[cfg(test)]
-<<<<<<< HEAD
 mod test_network;
 #[cfg(test)]
-=======
->>>>>>> 5fba48ae3933c4e5ba8bd0f94b47d075387e6b3b
 mod tests;
 mod world;
 
