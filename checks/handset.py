@@ -9,12 +9,13 @@ usage: handset.py MODEL PROBE [WALKS [SEED]]
 """
 import sys
 
-from handset_inputs import CAPABILITIES
-from handset_walks import LAST_MOMENT, Answered, Walk, compare
+from frame_inputs import CAPABILITIES
+from handset_walks import HandsetWalk, compare_handsets
 from probe import text
+from walks import Answered
 
 
-class HandsetWalk(Walk):
+class WholeWalk(HandsetWalk):
     CALL = "handset"
 
     def __init__(self, rng, modules, config):
@@ -22,7 +23,6 @@ class HandsetWalk(Walk):
             config = config._replace(capability=bytes.fromhex(rng.choice(CAPABILITIES)))
         super().__init__(rng, modules, config)
         self.words.append(text(config.capability))
-        self.deadlines = set()  # also of timers that were stopped since
 
     def observed(self):
         """The model's handset, without sessions."""
@@ -36,25 +36,12 @@ class HandsetWalk(Walk):
 
         return Observed
 
-    def moment(self):
-        """A moment that tells something: a deadline, or just before or behind it; one before the last told; the last of all."""
-        rng, handset = self.rng, self.handset
-        running = handset.timers.values()
-        deadlines = sorted(running if running and self.chance(0.6) else {at for at in self.deadlines if at >= handset.now})
-        if deadlines and self.chance(0.7):
-            return rng.choice(deadlines) + rng.choice([0, 0, 0, -1, 5])
-        if self.chance(0.05):
-            return LAST_MOMENT - rng.choice([0, 1, 15000])
-        if self.chance(0.05):
-            return rng.randint(0, handset.now)
-        return handset.now + rng.choice([0, 1, 1000, 14999, 15000, 30000])
-
     def step(self, word, act):
         super().step(word, act)
         self.deadlines.update(self.handset.timers.values())
 
     def tick(self):
-        moment = max(0, min(self.moment(), LAST_MOMENT))
+        moment = self.moment(self.handset)
         self.step(f"tick:{moment}", lambda: self.handset.tick(moment))
 
     def go(self):
@@ -78,4 +65,4 @@ class HandsetWalk(Walk):
 
 
 if __name__ == "__main__":
-    sys.exit(compare("handset", HandsetWalk, Answered, 2000))
+    sys.exit(compare_handsets("handset", WholeWalk, Answered, 2000))

@@ -1,16 +1,11 @@
 """Octets for a handset that handset.py and mobility.py send: messages of a network, in frames or plain, as they are or changed."""
 from elements import mutated
+from frame_inputs import CAPABILITIES, CAUSES, LONGEST_MESSAGE, Frames
 
-LONGEST = 4096  # octets of a message, and of a frame
-LONGEST_MESSAGE = LONGEST - 7  # of one in a frame
-MOST = 4100  # octets that 5GMM takes
-COUNTS = 1 << 24
 GUTIS = ["f200f11002004000000001", "f200f1100200400000abcd", "f221436520ff123456789a"]
 NO_GUTIS = ["f4004000000001", "0100f110f0ff00000000000010", "f200f110020040000000", ""]
 SESSIONS = ["50022000", "5002feff", "50020000", "50032000ff", "500120", "50020100"]
 EXTRAS = ["", "", "", "a1", "220101", "7b000100", "3f02aabb", "50", "36", "01ff", "5e0106", "540101"]
-CAPABILITIES = ["a020", "8020", "2020", "a000", "a0200000", "ffff", "f0f0f0f0f0f0f0f0"]
-CAUSES = [3, 7, 9, 10, 11, 22, 71, 72, 73, 75, 85, 86, 87, 97, 111, 0, 255]
 
 # Message types and what follows: messages that a handset answers or takes, those that end something, those that a network doesn't send
 # or that a handset takes nothing from, and those with wrong parts or of no known type. The cause is cc.
@@ -20,17 +15,14 @@ OTHERS = ["64cc", "43", "48", "55", "57", "59cc", "5e", "5fcc", "4179000101", "4
 WRONG = ["40", "7f", "ff", "42", "44", "47", "4d", "56", "5600", "5b", "5d", "64", "68", "680100", "5c", "572d", "41", "59", ""]
 
 
-class Network:
+class Network(Frames):
     """A network as the handset's other end: it sees the model of the handset, so that what it sends can be right."""
 
     def __init__(self, rng, crypto, codec, handset):
-        self.rng, self.crypto, self.codec, self.handset = rng, crypto, codec, handset
+        super().__init__(rng, crypto, False)
+        self.codec, self.handset = codec, handset
         self.challenges = []  # AUTHENTICATION REQUESTs
-        self.frames = []  # what was sent
         self.contexts = []  # contexts that were in use
-
-    def chance(self, p):
-        return self.rng.random() < p
 
     # messages
 
@@ -106,19 +98,6 @@ class Network:
 
     # frames
 
-    def frame(self, context, header, message):
-        """The message in a frame under the context, mostly at the next count."""
-        rng, count = self.rng, context.down
-        if self.chance(0.12):
-            count += rng.choice([1, 2, 5, 254, 255, 256, 300, -1, -1, -1, -256])
-        copy = context.copy()
-        copy.down = max(0, min(count, COUNTS - 1))
-        made = self.crypto.protect(copy, self.crypto.DOWN, header, message[:LONGEST_MESSAGE])[1]
-        if self.chance(0.05):
-            made = made[:1] + bytes([made[1] | rng.choice([0x10, 0x50, 0xF0])]) + made[2:]
-        self.frames.append(made)
-        return made
-
     def pending_context(self):
         challenge, ksi, kamf = self.handset.pending
         return lambda nea: self.crypto.Context(challenge, ksi, kamf, nea if nea in (0, 2) else 2, 2)
@@ -148,25 +127,16 @@ class Network:
 
     def odd(self):
         """Octets that no network sends."""
-        rng = self.rng
-        kind = rng.randrange(8)
-        if kind == 0:
-            return rng.choice([b"", b"\x7e", b"\x7e\x00", b"\x2e", b"\x7e\x02", b"\x7e\x03" + bytes(5), b"\x7e\x02" + bytes(6), b"\x2e\x01\x01\xc1\xff\xff"])
-        if kind == 1:
-            return rng.randbytes(rng.randint(0, 40))
+        kind, made = self.rng.randrange(8), None
+        if kind < 2:
+            return self.none()
         if kind == 2:
-            message = rng.choice([bytes([0x7E, 0, 0x5B, 1]), bytes([0x7E, 0, 0x7F]), self.challenge()])
-            return message + bytes([0xA0]) * (rng.choice([LONGEST, LONGEST + 1, MOST, MOST + 1, 5000]) - len(message))
+            return self.long(self.rng.choice([bytes([0x7E, 0, 0x5B, 1]), bytes([0x7E, 0, 0x7F]), self.challenge()]))
         if kind == 3 and self.handset.current:
-            message = bytes([0x7E, 0, 0x5B, 1])
-            message += bytes([0xA0]) * (rng.choice([LONGEST_MESSAGE - 1, LONGEST_MESSAGE]) - len(message))
-            made = self.under_current(message)
-            return made + rng.choice([b"", b"", b"\xa0", b"\xa0\xa0"])
-        if kind == 4 and self.frames:
-            return rng.choice(self.frames[-3:])
-        if kind == 5 and self.frames:
-            return mutated(rng, rng.choice(self.frames[-3:]))
-        return mutated(rng, self.any_message())
+            made = self.long_frame(self.handset.current, 2, bytes([0x7E, 0, 0x5B, 1]))
+        if kind in (4, 5):
+            made = self.again()
+        return mutated(self.rng, self.any_message()) if made is None else made
 
     def next_in_line(self):
         """What a network sends next in a procedure that goes well, or nothing."""

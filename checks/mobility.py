@@ -11,15 +11,16 @@ usage: mobility.py MODEL PROBE [WALKS [SEED]]
 """
 import sys
 
-from handset_inputs import COUNTS, MOST
-from handset_walks import Answered, Walk, compare
+from frame_inputs import COUNTS, MOST
+from handset_walks import HandsetWalk, compare_handsets
 from probe import text
+from walks import Answered
 
 OWNERS = {"T3510": "Registering", "T3517": "Serving", "T3521": "Deregistering"}
 OF_THE_NETWORK = ["T3522", "T3550", "T3560"]
 
 
-class MobilityWalk(Walk):
+class MobilityWalk(HandsetWalk):
     CALL = "mobility"
 
     def __init__(self, rng, modules, config):
@@ -187,4 +188,4 @@ class AnsweredWithSessions(Answered):
 
 
 if __name__ == "__main__":
-    sys.exit(compare("mobility", MobilityWalk, AnsweredWithSessions, 400))
+    sys.exit(compare_handsets("mobility", MobilityWalk, AnsweredWithSessions, 400))

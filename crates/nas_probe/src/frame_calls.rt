@@ -42,12 +42,12 @@ pub fn answer(alloc: Global, words: &[&str]) -> Result<String, Refusal> {
             let context = context(kamf, nea, next)?;
             judged(alloc, &context, direction(dir)?, &octets(alloc, frame)?)
         }
-        ["time_protect", length, times] => sum(
+        ["time_protect", length, times] => sum_text(
             alloc,
             protect_often(quantity(length)?, quantity(times)?)?,
         ),
         ["time_unprotect", length, times] => {
-            sum(alloc, unprotect_often(quantity(length)?, quantity(times)?)?)
+            sum_text(alloc, unprotect_often(quantity(length)?, quantity(times)?)?)
         }
         _ => Err(Refusal::Unreadable),
     }
@@ -172,7 +172,8 @@ pub fn sum_of(octets: &[u8]) -> u64 {
     }
 }
 
-fn sum(alloc: Global, sum: u64) -> Result<String, Refusal> {
+/// A sum.
+pub fn sum_text(alloc: Global, sum: u64) -> Result<String, Refusal> {
     word(format!(in alloc; "{sum}"))
 }
 

@@ -28,6 +28,7 @@
 //! `time_registration` registers a handset anew TIMES times, by a challenge, a command and an accept; `time_discarded` delivers a
 //! frame TIMES times whose MAC is wrong. Both answer a sum of what came out, for a clock outside.
 
+use crate::frame_calls::sum_text;
 use crate::handset_course::Course;
 use crate::words::{Refusal, exactly, octets, quantity};
 use crate::{handset_inputs, handset_times};
@@ -51,12 +52,13 @@ pub fn answer(alloc: Global, words: &[&str]) -> Result<String, Refusal> {
     match words {
         ["handset", sqn, capability, inputs @ ..] => walk(alloc, sqn, capability, inputs),
         ["time_registration", times] => {
-            let sum = handset_times::registrations(alloc, quantity(times)?)?;
-            format!(in alloc; "{sum}").map_err(|_| Refusal::Memory)
+            sum_text(
+                alloc,
+                handset_times::registrations(alloc, quantity(times)?)?,
+            )
         }
         ["time_discarded", times] => {
-            let sum = handset_times::discarded(alloc, quantity(times)?)?;
-            format!(in alloc; "{sum}").map_err(|_| Refusal::Memory)
+            sum_text(alloc, handset_times::discarded(alloc, quantity(times)?)?)
         }
         _ => Err(Refusal::Unreadable),
     }

@@ -57,7 +57,8 @@ pub fn command(word: &str) -> Result<UeCommand, Refusal> {
     }
 }
 
-fn moment(word: &str) -> Result<Moment, Refusal> {
+/// A moment in milliseconds, at most 10^15.
+pub fn moment(word: &str) -> Result<Moment, Refusal> {
     match word.parse::<u64>() {
         Ok(ms) if ms <= LAST_MOMENT => Ok(Moment(ms)),
         _ => Err(Refusal::Unreadable),

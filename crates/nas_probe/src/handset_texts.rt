@@ -55,14 +55,8 @@ pub fn view_text(alloc: Global, view: &UeView) -> Result<String, Refusal> {
         Some(guti) => guti_text(alloc, guti)?,
         None => none(alloc)?,
     };
-    let current = match &view.current {
-        Some(context) => context_text(alloc, context)?,
-        None => none(alloc)?,
-    };
-    let pending = match &view.pending {
-        Some(challenge) => challenge_text(alloc, challenge)?,
-        None => none(alloc)?,
-    };
+    let current = context_or_none(alloc, &view.current)?;
+    let pending = challenge_or_none(alloc, &view.pending)?;
     word(format!(in alloc;
         "{state:?}:{connected}:{secure}:{registered}:{guti}:{current}:{pending}:{sqn:012x}"
     ))
@@ -94,12 +88,38 @@ pub fn sent_text(
     pass: &Option<Pass>,
 ) -> Result<String, Refusal> {
     let name = if fresh { "fresh" } else { "sent" };
+    let carried = carried_text(alloc, octets, pass)?;
+    word(format!(in alloc; "{name}:{carried}"))
+}
+
+/// The octets of a message that is sent, and what protects it.
+pub fn carried_text(
+    alloc: Global,
+    octets: &Octets,
+    pass: &Option<Pass>,
+) -> Result<String, Refusal> {
     let octets = text(alloc, octets.as_slice())?;
     let pass = match pass {
         Some(pass) => pass_text(alloc, pass)?,
         None => word(String::from_str(alloc, "plain"))?,
     };
-    word(format!(in alloc; "{name}:{octets}:{pass}"))
+    word(format!(in alloc; "{octets}:{pass}"))
+}
+
+/// A context, if there is one.
+pub fn context_or_none(alloc: Global, context: &Option<Context>) -> Result<String, Refusal> {
+    match context {
+        Some(context) => context_text(alloc, context),
+        None => none(alloc),
+    }
+}
+
+/// A challenge, if there is one.
+pub fn challenge_or_none(alloc: Global, challenge: &Option<Challenge>) -> Result<String, Refusal> {
+    match challenge {
+        Some(challenge) => challenge_text(alloc, challenge),
+        None => none(alloc),
+    }
 }
 
 // The messages that were sent behind the line, with a comma behind each.
@@ -143,7 +163,8 @@ fn context_text(alloc: Global, context: &Context) -> Result<String, Refusal> {
     word(format!(in alloc; "{ksi}.{challenge}.{kamf}.{nea}.{nia}.{enc}.{int}.{up}.{down}"))
 }
 
-fn guti_text(alloc: Global, guti: &Guti) -> Result<String, Refusal> {
+/// A 5G-GUTI, as the octets of its identity.
+pub fn guti_text(alloc: Global, guti: &Guti) -> Result<String, Refusal> {
     let mut out = Writer::new();
     match guti.write(&mut out) {
         Ok(()) => text(alloc, out.octets()),
@@ -151,7 +172,8 @@ fn guti_text(alloc: Global, guti: &Guti) -> Result<String, Refusal> {
     }
 }
 
-fn none(alloc: Global) -> Result<String, Refusal> {
+/// The word for what isn't there.
+pub fn none(alloc: Global) -> Result<String, Refusal> {
     word(String::from_str(alloc, "none"))
 }
 

@@ -14,10 +14,10 @@ use nas_security::{Challenge, Context, Sends, protect};
 use std::alloc::Global;
 use ue_mm::HandsetConfig;
 
-// The sequence number and RAND of TS 35.208 test set 1, and its SQN XOR AK.
-const SQN: u64 = 0xff9b_b4d0_b607;
+/// The sequence number and RAND of TS 35.208 test set 1, and below their SQN XOR AK.
+pub const SQN: u64 = 0xff9b_b4d0_b607;
 
-const RAND: [u8; 16] = [
+pub const RAND: [u8; 16] = [
     0x23, 0x55, 0x3c, 0xbe, 0x96, 0x37, 0xa8, 0x9d, 0x21, 0x8a, 0xe6, 0x4d, 0xae, 0x47, 0xbf, 0x35,
 ];
 
@@ -89,7 +89,8 @@ fn delivered(alloc: Global, handset: &mut Handset, octets: &Octets) -> Result<u6
     Ok(sum_sent(&delivery.sends))
 }
 
-fn sum_sent(sends: &Sends) -> u64 {
+/// A sum of what was sent.
+pub fn sum_sent(sends: &Sends) -> u64 {
     let mut sum = 0u64;
     for send in sends.as_slice() {
         sum = sum.wrapping_add(sum_of(send.octets.as_slice()));

@@ -21,6 +21,12 @@ mod mobility_calls;
 mod mobility_course;
 mod mobility_inputs;
 mod mobility_texts;
+mod network_calls;
+mod network_config;
+mod network_course;
+mod network_inputs;
+mod network_texts;
+mod network_times;
 mod qos_calls;
 mod words;
 

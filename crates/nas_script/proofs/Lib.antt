@@ -3,3 +3,4 @@ pub mod DocumentLaws
 pub mod LinesLaws
 pub mod ScriptLaws
 pub mod TranscriptLaws
+pub mod WorldLaws

@@ -2,8 +2,9 @@
 use Rattle.std.proofs.Common.{◌≡◌, ℕ, ◌+◌, Bool, true, false, cond, List, [], ◌∷◌, map, filter, Option, Some, None, option_map, Result, Ok, Err, refl, ap}
 use Rattle.nas_world.specs.Script.{Line}
 use Rattle.nas_world.specs.declared.event.Event.{Event}
+use Rattle.nas_script.specs.Events.{event_in}
 use Rattle.nas_script.specs.Lines.{all_ascii, is_event, split}
-use Rattle.nas_script.specs.Script.{event_in, events_in, text_of, with_line}
+use Rattle.nas_script.specs.Script.{events_in, text_of, with_line}
 use Rattle.nas_script.specs.declared.script.ScriptRefusal.{ScriptRefusal}
 
 -- one more line

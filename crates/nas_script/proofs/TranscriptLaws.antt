@@ -3,7 +3,8 @@ use Rattle.std.proofs.Common.{◌≡◌, ◌∙◌, ℕ, ◌+◌, ◌<◌, List,
 use Rattle.std.proofs.lemmas.List.{drop_more}
 use Rattle.nas_world.specs.Config.{WorldValues}
 use Rattle.nas_world.specs.Script.{Line}
-use Rattle.nas_world.specs.World.{WorldState, first, step_of}
+use Rattle.nas_world.specs.Events.{step_of}
+use Rattle.nas_world.specs.State.{WorldState, first}
 use Rattle.nas_script.specs.Transcript.{event_text, events_text, head_text, transcript_of}
 
 -- the head, and then the events from the first world on

@@ -1,15 +1,23 @@
 -- The values of single keys.
-use Rattle.std.specs.Prelude.{ℕ, ◌-◌, List, [], ◌∷◌, length, codes, nat_lt, Option, Some, None, option_map, if◌then◌else◌}
+use Rattle.std.specs.Prelude.{ℕ, ◌-◌, List, [], ◌∷◌, length, codes, nat_lt, ◌==◌, ◌||◌, ◌&&◌, Option, Some, None, option_map, if◌then◌else◌}
 use Rattle.std.specs.Char.{is_ascii_digit}
 use Rattle.std.specs.Option.{option_and_then}
 use Rattle.std.specs.Result.{result_ok}
+use Rattle.byteorder.specs.Endian.{big_number}
 use Rattle.hex.specs.Hex.{decode_of}
 use Rattle.toml.specs.Data.{Data}
 use Rattle.nas_base.specs.Digits.{digits_from}
 use Rattle.nas_base.specs.Plmn.{PlmnIdentity, plmn_of_digits}
 use Rattle.nas_base.specs.Supi.{is_of_plmn, supi_from}
+use Rattle.nas_elements.specs.Ambr.{ambr_in}
 use Rattle.nas_elements.specs.Capability.{capability_in}
-use Rattle.nas_script.specs.Document.{text_at}
+use Rattle.nas_elements.specs.Timer3.{GprsTimer, timer3_in}
+use Rattle.nas_elements.specs.declared.ambr.Ambr.{Ambr}
+use Rattle.milenage.specs.Checking.{is_for_5g}
+use Rattle.nas_network.specs.Config.{is_pool_size, pool_fits}
+use Rattle.nas_script.specs.Addresses.{address_in}
+use Rattle.nas_script.specs.Document.{number_at, text_at}
+use Rattle.nas_script.specs.Octets.{octets_in}
 
 -- the values of ASCII digits
 abbrev pub digit_values : List ℕ → Option (List ℕ)
@@ -43,3 +51,45 @@ supi_at plmn d = option_and_then (supi_in plmn) (text_at (codes "supi") d)
 
 unfoldable pub capability_at : Data → Option (List ℕ)
 capability_at handset = option_and_then hex_capability_in (text_at (codes "capability") handset)
+
+-- so many octets in hex digits
+unfoldable pub octets_at : ℕ → List ℕ → Data → Option (List ℕ)
+octets_at count key d = option_and_then (octets_in count) (text_at key d)
+
+-- tmsi: 1 to 2 ^ 32 - 1; ciphering: 0 or 2
+unfoldable pub tmsi_at : Data → Option ℕ
+tmsi_at network = number_at 1 4294967295 (codes "tmsi") network
+
+abbrev pub ciphering_from : ℕ → Option ℕ
+ciphering_from n = if n == 0 || n == 2 then Some n else None
+
+unfoldable pub ciphering_at : Data → Option ℕ
+ciphering_at network = option_and_then ciphering_from (number_at 0 2 (codes "ciphering") network)
+
+-- t3512: the octet of a GPRS timer 3
+unfoldable pub t3512_at : Data → Option GprsTimer
+t3512_at network = option_and_then timer3_in (octets_at 1 (codes "t3512") network)
+
+-- pool: a dotted address; pool_size: 1 to 65,536, so that the pool ends at or below 255.255.255.255
+unfoldable pub pool_at : Data → Option (List ℕ)
+pool_at network = option_and_then address_in (text_at (codes "pool") network)
+
+abbrev pub size_from : List ℕ → ℕ → Option ℕ
+size_from pool size = if is_pool_size size && pool_fits pool size then Some size else None
+
+unfoldable pub pool_size_at : List ℕ → Data → Option ℕ
+pool_size_at pool network = option_and_then (size_from pool) (number_at 1 65536 (codes "pool_size") network)
+
+-- ambr: the 6 octets of a session AMBR
+unfoldable pub ambr_at : Data → Option Ambr
+ambr_at network = option_and_then ambr_in (octets_at 6 (codes "ambr") network)
+
+-- field: 2 octets, the first bit 1; sqn: 6 octets
+abbrev pub field_from : List ℕ → Option (List ℕ)
+field_from field = if is_for_5g field then Some field else None
+
+unfoldable pub field_at : Data → Option (List ℕ)
+field_at d = option_and_then field_from (octets_at 2 (codes "field") d)
+
+unfoldable pub sqn_at : Data → Option ℕ
+sqn_at d = option_map (big_number 6) (octets_at 6 (codes "sqn") d)

@@ -1,41 +1,11 @@
 -- The script: a line for each event, and lines that are none.
-use Rattle.std.specs.Prelude.{◌≡◌, ℕ, ◌+◌, ◌-◌, ◌*◌, ◌^◌, List, [], ◌∷◌, ◌++◌, length, drop, codes, nat_eq, nat_lt, ◌==◌, ◌&&◌, Option, Some, None, option_map, Result, Ok, Err, if◌then◌else◌}
-use Rattle.std.specs.Char.{is_ascii_digit}
-use Rattle.std.specs.Cmp.Lexicographic.{pointwise}
-use Rattle.std.specs.List.{starts_with}
-use Rattle.nas_base.specs.declared.kind.Kind.TheVariants.{Initial}
+use Rattle.std.specs.Prelude.{◌≡◌, ℕ, ◌+◌, List, [], ◌∷◌, ◌++◌, nat_lt, Option, Some, None, option_map, Result, Ok, Err, if◌then◌else◌}
 use Rattle.nas_world.specs.Script.{Line}
 use Rattle.nas_world.specs.declared.event.Event.{Event}
-use Rattle.nas_world.specs.declared.event.Event.TheVariants.{Command, ToNet, ToUe}
-use Rattle.nas_world.specs.declared.event.UeCommand.TheVariants.{Register}
+use Rattle.nas_script.specs.Events.{event_in}
 use Rattle.nas_script.specs.Lines.{all_ascii, count_events, is_event, split}
 use Rattle.nas_script.specs.declared.script.ScriptRefusal.{ScriptRefusal}
 use Rattle.nas_script.specs.declared.script.ScriptRefusal.TheVariants.{TooLong, ScriptWrong, Memory}
-
--- decimal digits behind a number: what both are together, if that is below 2 ^ 32
-abbrev pub number_from : ℕ → List ℕ → Option ℕ
-number_from n [] = Some n
-number_from n (c ∷ cs) =
-    if is_ascii_digit c && nat_lt (10 * n + (c - 48)) (2 ^ 32) then number_from (10 * n + (c - 48)) cs else None
-
--- a number from 1 to 2 ^ 32 - 1, without sign or leading zeros
-abbrev pub number_in : List ℕ → Option ℕ
-number_in [] = None
-number_in (c ∷ cs) = if c == 48 then None else number_from 0 (c ∷ cs)
-
--- what stands behind a word and a space
-abbrev pub behind : List ℕ → List ℕ → Option (List ℕ)
-behind word line = if starts_with nat_eq line word then Some (drop (length word) line) else None
-
-abbrev pub numbered : (ℕ → Event) → Option (List ℕ) → Option Event → Option Event
-numbered make None otherwise = otherwise
-numbered make (Some rest) otherwise = option_map make (number_in rest)
-
--- register; to-net K; to-ue K
-unfoldable pub event_in : List ℕ → Option Event
-event_in line =
-    if pointwise nat_eq line (codes "register") then Some (Command (Register Initial))
-    else numbered ToNet (behind (codes "to-net ") line) (numbered ToUe (behind (codes "to-ue ") line) None)
 
 -- What a line says: an event, or nothing. One that says neither is no line; nor is one with an octet above 127, be it a
 -- comment.

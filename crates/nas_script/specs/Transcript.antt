@@ -4,11 +4,14 @@ use Rattle.std.specs.Fmt.{decimal}
 use Rattle.hex.specs.Hex.{encode_lower}
 use Rattle.nas_world.specs.Config.{WorldValues}
 use Rattle.nas_world.specs.Script.{Line}
-use Rattle.nas_world.specs.World.{WorldState, agree, first, honest, step_of}
+use Rattle.nas_security.specs.declared.sends.Send.{Send}
+use Rattle.nas_world.specs.Agree.{agree, at_handset, at_network}
+use Rattle.nas_world.specs.Events.{step_of}
+use Rattle.nas_world.specs.State.{WorldState, first, honest}
 use Rattle.nas_world.specs.declared.event.RefusedWord.{RefusedWord}
-use Rattle.nas_world.specs.declared.event.RefusedWord.TheVariants.{WrongState}
+use Rattle.nas_world.specs.declared.event.RefusedWord.TheVariants.{WrongState, Spent, UnknownSupi, SqnSpent}
 use Rattle.nas_world.specs.declared.seen.Seen.{Seen}
-use Rattle.nas_world.specs.declared.send.Send.{Send}
+use Rattle.nas_script.specs.Ends.{net_text, ue_text}
 
 unfoldable pub head_text : List ℕ
 head_text = codes "nas transcript 1\n"
@@ -37,27 +40,26 @@ sents_text way number (s ∷ ss) = sent_text way number s ++ sents_text way (num
 abbrev pub newly_sent : List ℕ → ℕ → List Send → List ℕ
 newly_sent way before log = sents_text way (before + 1) (drop before log)
 
-unfoldable pub refused_text : Option RefusedWord → List ℕ
+-- the line of a refusal, where there was one
+unfoldable pub refusal_text : RefusedWord → List ℕ
+refusal_text WrongState = codes "  refused WrongState\n"
+refusal_text Spent = codes "  refused Spent\n"
+refusal_text UnknownSupi = codes "  refused UnknownSupi\n"
+refusal_text SqnSpent = codes "  refused SqnSpent\n"
+
+abbrev pub refused_text : Option RefusedWord → List ℕ
 refused_text None = []
-refused_text (Some WrongState) = codes "  refused WrongState\n"
+refused_text (Some word) = refusal_text word
 
 unfoldable pub nothing_text : Bool → List ℕ
 nothing_text nothing = if nothing then codes "  nothing\n" else []
-
--- The handset: its state, its connection, its TMSI and its ngKSI. It has neither of the last two yet.
-unfoldable pub ue_text : Bool → List ℕ
-ue_text registering = if registering then codes "  ue Registering connected - -\n" else codes "  ue Deregistered idle - -\n"
-
--- The network: the state that it keeps of the handset's subscriber. The handset is no subscriber.
-unfoldable pub net_text : List ℕ
-net_text = codes "  net none - -\n"
 
 unfoldable pub verdict_text : Bool → Bool → List ℕ
 verdict_text honest agree = codes "honest " ++ (word_of honest ++ (codes " agree " ++ (word_of agree ++ codes "\n")))
 
 -- the world after an event
 abbrev pub world_text : WorldState → List ℕ
-world_text w = ue_text w.registering ++ (net_text ++ (codes "  " ++ verdict_text (honest w) (agree w)))
+world_text w = ue_text (at_handset w) ++ (net_text (at_network w) ++ (codes "  " ++ verdict_text (honest w) (agree w)))
 
 -- the first line of an event: its number, and its line of the script as it was given
 unfoldable pub line_text : ℕ → List ℕ → List ℕ

@@ -1,21 +1,22 @@
 //! The configuration.
-ghost use Rattle.std.specs.Prelude.{◌≡◌, ◌≤◌, ◌∷◌, [], true, length, map, option_map, false, IfOk, IfSome};
-ghost use Rattle.nas_base.specs.Supi.{is_of_plmn};
-ghost use Rattle.std.specs.Option.{option_and_then};
-ghost use Rattle.nas_script.specs.Fields.{supi_at};
+ghost use Rattle.std.specs.Prelude.{◌≡◌, Some, option_map, IfOk};
 ghost use Rattle.toml.specs.View.{view};
-ghost use Rattle.nas_world.specs.Subscribers.{are_subscribers, is_subscriber};
-ghost use Rattle.nas_script.specs.Config.{config_in, configured, handset_at, new_supi, subscribers_in};
+ghost use Rattle.nas_script.specs.Config.{config_in, configured, handset_at, handset_in};
 ghost use Rattle.nas_script.specs.Reads.{Reads, named};
 
 use crate::Key;
 use crate::document::{document, table_of, tables_of};
-use crate::fields::{capability_of, plmn_of, supi_of};
-use nas_base::{Memory, Plmn, Supi};
-use nas_world::{HandsetConfig, NetConfig, Subscriber, Subscribers, WorldConfig};
+use crate::fields::{capability_of, octets_of, sqn_of, supi_of};
+use crate::network_table::read_network;
+use crate::subscribers::read_subscribers;
+use crate::timers_table::read_durations;
+use nas_base::{Memory, Plmn};
+use nas_timers::Durations;
+use nas_world::WorldConfig;
 use std::alloc::Global;
 use thiserror::Error;
 use toml::Value;
+use ue_mm::HandsetConfig;
 
 /// Why octets were not read as a configuration.
 #[derive(Debug, Drop, Error)]
@@ -51,9 +52,10 @@ pub fn read_config(alloc: Global, octets: &[u8]) -> Result<WorldConfig, ConfigRe
     read_document(alloc, &document)
 }
 
-// The value, or the key that names what is wrong.
-fn needed<T: Drop>(key: Key, value: Option<T>) -> Result<T, ConfigRefusal>
-    ensures { Reads (λ x. x) result (named key value) }
+/// The value, or the key that names what is wrong.
+pub fn needed<T: Drop>(key: Key, value: Option<T>) -> Result<T, ConfigRefusal>
+    ensures read { Reads (λ x. x) result (named key value) }
+    ensures value { IfOk result (λ x. value ≡ Some x) }
 {
     match value {
         Some(value) => Ok(value),
@@ -66,25 +68,15 @@ fn needed<T: Drop>(key: Key, value: Option<T>) -> Result<T, ConfigRefusal>
 fn read_document(alloc: Global, document: &Value) -> Result<WorldConfig, ConfigRefusal>
     ensures { Reads (λ config. config) result (configured (view document.now)) }
 {
-    let network = needed(Key::Network, table_of("network", document))?;
-    let plmn = needed(Key::Plmn, plmn_of(network))?;
+    let network = read_network(needed(Key::Network, table_of("network", document))?)?;
+    let durations = read_durations(document)?;
     let tables = needed(Key::Subscriber, tables_of(64, "subscriber", document))?;
-    let subscribers = read_subscribers(alloc, &plmn, tables)?;
-    let handset = needed(Key::Handset, handset_of(document))?;
-    let supi = needed(Key::Supi, supi_of(&plmn, handset))?;
-    let capability = needed(Key::Capability, capability_of(handset))?;
-    if subscribers.contain(&supi) {
-        return Err(ConfigRefusal::ConfigWrong {
-            key: Key::Subscriber,
-        });
-    }
+    let subscribers = read_subscribers(alloc, &network.plmn, tables)?;
+    let table = needed(Key::Handset, handset_of(document))?;
+    let handset = read_handset(&network.plmn, durations, table)?;
     Ok(WorldConfig {
-        handset: HandsetConfig {
-            supi,
-            plmn: plmn.copy(),
-            capability,
-        },
-        net: NetConfig { plmn, subscribers },
+        net: network.with(durations, subscribers),
+        handset,
     })
 }
 
@@ -95,34 +87,27 @@ fn handset_of(document: &Value) -> Option<&Value>
     tables_of(1, "handset", document)?.first()
 }
 
-// The subscribers of these tables.
-fn read_subscribers(
-    alloc: Global,
+// The handset of a table, with these durations.
+#[tactic(auto, unfolding(crate::specs::Config::handset_in))]
+fn read_handset(
     plmn: &Plmn,
-    tables: &[Value],
-) -> Result<Subscribers, ConfigRefusal>
-    requires some { 1 ≤ length tables.now }
-    requires limit { length tables.now ≤ 64 }
-    ensures value { Reads (λ subscribers. subscribers) result (subscribers_in plmn.now [] (map view tables.now)) }
-    ensures fact { IfOk result (λ subscribers. are_subscribers plmn.now subscribers ≡ true) }
+    durations: Durations,
+    table: &Value,
+) -> Result<HandsetConfig, ConfigRefusal>
+    ensures { Reads (λ h. h) result (handset_in plmn.now durations (view table.now)) }
 {
-    let mut subscribers = Subscribers::new(alloc);
-    for table in tables {
-        let supi = needed(Key::Supi, new_supi_of(plmn, &subscribers, table))?;
-        subscribers.push(alloc, Subscriber { supi })?;
-    }
-    Ok(subscribers)
-}
-
-// The SUPI of a table, which none of the subscribers before has.
-fn new_supi_of(plmn: &Plmn, before: &Subscribers, table: &Value) -> Option<Supi>
-    ensures value { result ≡ option_and_then (new_supi before.now) (supi_at plmn.now (view table.now)) }
-    ensures fact { IfSome result (λ supi. (is_of_plmn plmn.now supi ≡ true) × (is_subscriber supi before.now ≡ false)) }
-{
-    let supi = supi_of(plmn, table)?;
-    if before.contain(&supi) {
-        None
-    } else {
-        Some(supi)
-    }
+    let supi = needed(Key::Supi, supi_of(plmn, table))?;
+    let k = needed(Key::K, octets_of::<16>("k", table))?;
+    let opc = needed(Key::Opc, octets_of::<16>("opc", table))?;
+    let sqn = needed(Key::Sqn, sqn_of(table))?;
+    let capability = needed(Key::Capability, capability_of(table))?;
+    Ok(HandsetConfig {
+        supi,
+        plmn: plmn.copy(),
+        k,
+        opc,
+        sqn,
+        capability,
+        durations,
+    })
 }

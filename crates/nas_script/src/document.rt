@@ -1,7 +1,7 @@
 //! TOML documents, and what stands under their keys.
-ghost use Rattle.std.specs.Prelude.{◌≡◌, map, option_map};
+ghost use Rattle.std.specs.Prelude.{◌≡◌, ◌≤◌, true, nat_le, ◌&&◌, map, option_map, IfSome};
 ghost use Rattle.toml.specs.View.{view};
-ghost use Rattle.nas_script.specs.Document.{document_in, entries_at, is_table, table_at, tables_at, text_at};
+ghost use Rattle.nas_script.specs.Document.{between, document_in, entries_at, integer_at, is_table, number_at, table_at, tables_at, text_at};
 ghost use Rattle.nas_script.specs.Reads.{Reads, named};
 ghost use Rattle.nas_script.specs.declared.key.Key.TheVariants as keys;
 ghost use Rattle.std.specs.List.{list_all};
@@ -36,6 +36,40 @@ pub fn text_of<'a>(key: &str, value: &'a Value) -> Option<&'a str>
     }
 }
 
+/// The integer under a key, where it lies from `low` to `high`.
+pub fn number_of(low: u32, high: u32, key: &str, value: &Value) -> Option<u32>
+    ensures value { result ≡ number_at low high key.now (view value.now) }
+    ensures bounds { IfSome result (λ n. (low ≤ n) × (n ≤ high)) }
+{
+    between(low, high, integer_of(key, value)?)
+}
+
+// The integer under a key.
+fn integer_of(key: &str, value: &Value) -> Option<i64>
+    ensures { result ≡ integer_at key.now (view value.now) }
+{
+    match value.get(key) {
+        Some(found) => found.as_integer(),
+        None => None,
+    }
+}
+
+/// The number that an integer is, where it lies from `low` to `high`.
+pub fn between(low: u32, high: u32, integer: i64) -> Option<u32>
+    ensures value { result ≡ between low high integer }
+    ensures bounds { IfSome result (λ n. (low ≤ n) × (n ≤ high)) }
+{
+    if integer < 0 {
+        return None;
+    }
+    let number = integer as u64;
+    if low as u64 <= number && number <= high as u64 {
+        Some(number as u32)
+    } else {
+        None
+    }
+}
+
 /// The table under a key.
 pub fn table_of<'a>(key: &str, value: &'a Value) -> Option<&'a Value>
     ensures { option_map (λ v. view v.now) result ≡ table_at key.now (view value.now) }
@@ -61,8 +95,8 @@ pub fn tables_of<'a>(most: usize, key: &str, value: &'a Value) -> Option<&'a [Va
     }
 }
 
-// The entries of the array under a key.
-fn entries_of<'a>(key: &str, value: &'a Value) -> Option<&'a [Value]>
+/// The entries of the array under a key.
+pub fn entries_of<'a>(key: &str, value: &'a Value) -> Option<&'a [Value]>
     ensures { option_map (λ vs. map view vs.now) result ≡ entries_at key.now (view value.now) }
 {
     match value.get(key) {

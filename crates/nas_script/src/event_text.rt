@@ -1,21 +1,15 @@
 //! The lines of one event.
 ghost use Rattle.std.specs.Prelude.{◌≡◌, ◌+◌, ◌^◌, ◌<◌, ◌≤◌, ◌++◌, length, drop, OnOk, IfOk};
-ghost use Rattle.nas_world.specs.World.{agree, honest};
-ghost use Rattle.nas_script.specs.Transcript.{end_text, event_text, line_text, nothing_text, refused_text, sent_text, sents_text, ue_text, verdict_text, word_of, world_text};
+ghost use Rattle.nas_world.specs.Agree.{agree};
+ghost use Rattle.nas_world.specs.State.{honest};
+ghost use Rattle.nas_script.specs.Transcript.{end_text, event_text, line_text, nothing_text, refusal_text, refused_text, sent_text, sents_text, verdict_text, word_of, world_text};
 
-use nas_base::Memory;
-use nas_world::{RefusedWord, Seen, Send, World};
+use crate::append::append;
+use crate::ends::{append_net, append_ue};
+use nas_base::{Memory, Supi};
+use nas_security::Send;
+use nas_world::{RefusedWord, Seen, World};
 use std::alloc::Global;
-
-/// Appends octets to a text.
-pub fn append(text: &mut Vec<u8>, octets: &[u8]) -> Result<(), Memory>
-    ensures { OnOk result (text.new.items ≡ text.old.items ++ octets.now) }
-{
-    match text.extend_from_slice(octets) {
-        Ok(()) => Ok(()),
-        Err(_) => Err(Memory),
-    }
-}
 
 // Appends the first line of an event.
 #[tactic(auto, unfolding(crate::specs::Transcript::line_text))]
@@ -68,13 +62,25 @@ fn append_newly_sent(
 }
 
 // Appends the line of a refusal, where there was one.
-#[tactic(auto, unfolding(crate::specs::Transcript::refused_text))]
 fn append_refused(text: &mut Vec<u8>, refused: &Option<RefusedWord>) -> Result<(), Memory>
     ensures { OnOk result (text.new.items ≡ text.old.items ++ refused_text refused.now) }
 {
     match refused {
         None => Ok(()),
-        Some(RefusedWord::WrongState) => append(text, b"  refused WrongState\n"),
+        Some(word) => append_refusal(text, *word),
+    }
+}
+
+// Appends the line of a refusal.
+#[tactic(auto, unfolding(crate::specs::Transcript::refusal_text))]
+fn append_refusal(text: &mut Vec<u8>, word: RefusedWord) -> Result<(), Memory>
+    ensures { OnOk result (text.new.items ≡ text.old.items ++ refusal_text word) }
+{
+    match word {
+        RefusedWord::WrongState => append(text, b"  refused WrongState\n"),
+        RefusedWord::Spent => append(text, b"  refused Spent\n"),
+        RefusedWord::UnknownSupi => append(text, b"  refused UnknownSupi\n"),
+        RefusedWord::SqnSpent => append(text, b"  refused SqnSpent\n"),
     }
 }
 
@@ -111,25 +117,13 @@ fn append_verdict(alloc: Global, text: &mut Vec<u8>, world: &World) -> Result<()
     append(text, line.as_bytes())
 }
 
-// The line of the handset.
-#[tactic(auto, unfolding(crate::specs::Transcript::ue_text))]
-fn ue_line(registering: bool) -> &'static str
-    ensures { result.now ≡ ue_text registering }
-{
-    if registering {
-        "  ue Registering connected - -\n"
-    } else {
-        "  ue Deregistered idle - -\n"
-    }
-}
-
 // Appends the lines of both ends.
-#[tactic(auto, unfolding(crate::specs::Transcript::net_text))]
-fn append_world(alloc: Global, text: &mut Vec<u8>, world: &World) -> Result<(), Memory>
+fn append_world(alloc: Global, text: &mut Vec<u8>, supi: &Supi, world: &World) -> Result<(), Memory>
+    requires { world.now.supi ≡ supi.now }
     ensures { OnOk result (text.new.items ≡ text.old.items ++ world_text world.now) }
 {
-    append(text, ue_line(world.registering()).as_bytes())?;
-    append(text, b"  net none - -\n")?;
+    append_ue(alloc, text, &world.handset().view())?;
+    append_net(alloc, text, &world.network().view(supi))?;
     append(text, b"  ")?;
     append_verdict(alloc, text, world)
 }
@@ -142,9 +136,11 @@ pub fn append_event(
     number: u32,
     line: &[u8],
     before: (usize, usize),
+    supi: &Supi,
     world: &World,
     seen: &Seen,
 ) -> Result<(), Memory>
+    requires supi { world.now.supi ≡ supi.now }
     requires ups { before.0 ≤ length world.now.up }
     requires downs { before.1 ≤ length world.now.down }
     ensures { OnOk result (text.new.items ≡ text.old.items ++ event_text number line.now before.0 before.1 world.now seen.now) }
@@ -155,7 +151,7 @@ pub fn append_event(
     append_newly_sent(alloc, text, "down", before.1, sent.down.as_slice())?;
     append_refused(text, &seen.refused)?;
     append_nothing(text, seen.nothing)?;
-    append_world(alloc, text, world)
+    append_world(alloc, text, supi, world)
 }
 
 /// Appends the last line, after so many events.

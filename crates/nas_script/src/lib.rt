@@ -1,14 +1,24 @@
 //! The files of a run: the configuration and the script that it reads, and the transcript that it writes.
 #![tactic(auto)]
 
+mod addresses;
+mod append;
 mod config;
 mod document;
+mod ends;
 mod event_line;
 mod event_text;
 mod fields;
 mod key;
+mod names;
+mod network_table;
+mod numbers;
+mod octets;
 mod script;
+mod slices;
+mod subscribers;
 mod telling;
+mod timers_table;
 
 pub use crate::config::{ConfigRefusal, read_config};
 pub use crate::key::Key;

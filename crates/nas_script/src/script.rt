@@ -5,7 +5,7 @@ ghost use Rattle.nas_script.specs.Lines.{count_events, is_event, split};
 ghost use Rattle.nas_script.specs.Script.{ReadsLine, ReadsLines, events_in, script_in, text_of};
 
 use crate::event_line::said_by;
-use nas_base::Octets1M;
+use nas_base::{Memory, Octets1M};
 use nas_world::{Script, ScriptLine};
 use std::alloc::Global;
 use std::mem;
@@ -60,27 +60,33 @@ fn read_lines(alloc: Global, octets: &[u8]) -> Result<Vec<ScriptLine>, ScriptRef
     for octet in octets {
         if *octet == b'\n' {
             let whole = mem::replace(&mut line, Vec::new(alloc));
-            read_line(&mut items, number, whole)?;
+            read_line(alloc, &mut items, number, whole)?;
             number += 1;
         } else if line.push(*octet).is_err() {
             return Err(ScriptRefusal::Memory);
         }
     }
-    read_line(&mut items, number, line)?;
+    read_line(alloc, &mut items, number, line)?;
     Ok(items)
 }
 
 // Reads one more line, of this number.
-fn read_line(items: &mut Vec<ScriptLine>, number: u32, line: Vec<u8>) -> Result<(), ScriptRefusal>
+fn read_line(
+    alloc: Global,
+    items: &mut Vec<ScriptLine>,
+    number: u32,
+    line: Vec<u8>,
+) -> Result<(), ScriptRefusal>
     requires limit { length line.items ≤ 1048576 }
     requires one { is_one_line line.items ≡ true }
     ensures value { ReadsLine number line.items items.old.items items.new.items result }
     ensures count { OnOk result (length items.new.items ≡ length items.old.items + (if is_event line.items then 1 else 0)) }
 {
-    match said_by(line.as_slice()) {
-        None => Err(ScriptRefusal::ScriptWrong { line: number }),
-        Some(None) => Ok(()),
-        Some(Some(event)) => {
+    match said_by(alloc, line.as_slice()) {
+        Err(Memory) => Err(ScriptRefusal::Memory),
+        Ok(None) => Err(ScriptRefusal::ScriptWrong { line: number }),
+        Ok(Some(None)) => Ok(()),
+        Ok(Some(Some(event))) => {
             let line = ScriptLine {
                 event,
                 text: Octets1M { items: line },

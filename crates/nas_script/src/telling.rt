@@ -1,12 +1,12 @@
 //! The transcript.
 ghost use Rattle.std.specs.Prelude.{◌≡◌, ◌+◌, ◌≤◌, ◌<◌, length, OnOk};
 ghost use Rattle.nas_base.specs.Outside.{Tells};
-ghost use Rattle.nas_world.specs.World.{step_of};
+ghost use Rattle.nas_world.specs.Events.{step_of};
 ghost use Rattle.nas_script.specs.Fault.{is_output};
 ghost use Rattle.nas_script.specs.Transcript.{end_text, event_text, head_text, transcript_of};
 
 use crate::event_text::{append_end, append_event};
-use nas_base::{Memory, Sink, WriteRefusal};
+use nas_base::{Memory, Sink, Supi, WriteRefusal};
 use nas_world::{Script, ScriptLine, World, WorldConfig};
 use std::alloc::Global;
 use thiserror::Error;
@@ -50,7 +50,7 @@ pub fn transcript<O: Sink>(
     let mut number = 0;
     for line in &script.items {
         number += 1;
-        write_event(alloc, number, line, &mut world, out)?;
+        write_event(alloc, number, line, &config.handset.supi, &mut world, out)?;
     }
     write_end(alloc, number, &world, out)
 }
@@ -75,13 +75,16 @@ fn write_head<O: Sink>(alloc: Global, out: &mut O) -> Result<(), TranscriptFault
 }
 
 // Makes an event happen, and writes its lines.
+#[tactic(auto, using(crate::proofs::WorldLaws::keeps_supi, crate::proofs::WorldLaws::keeps_ups, crate::proofs::WorldLaws::keeps_downs))]
 fn write_event<O: Sink>(
     alloc: Global,
     number: u32,
     line: &ScriptLine,
+    supi: &Supi,
     world: &mut World,
     out: &mut O,
 ) -> Result<(), TranscriptFault>
+    requires { world.old.supi ≡ supi.now }
     ensures text { Tells is_output (O.written out.old) (O.written out.new) (O.fault_count out.old) (O.fault_count out.new)
         (event_text number line.now.text (length world.old.up) (length world.old.down) (step_of world.old line.now.event).0 (step_of world.old line.now.event).1) result }
     ensures world { OnOk result (world.new ≡ (step_of world.old line.now.event).0) }
@@ -96,6 +99,7 @@ fn write_event<O: Sink>(
         number,
         line.text.as_slice(),
         before,
+        supi,
         world,
         &seen,
     )?;

@@ -1,1 +1,4 @@
-pub mod Fits
+pub mod Finding
+pub mod Index
+pub mod Judged
+pub mod Outcomes

@@ -1,5 +1,10 @@
+pub mod Agree
+pub mod Cards
 pub mod Config
+pub mod Events
+pub mod Honest
+pub mod Index
 pub mod Logs
 pub mod Script
-pub mod Subscribers
-pub mod World
+pub mod State
+pub mod Taken

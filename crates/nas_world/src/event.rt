@@ -1,28 +1,56 @@
 //! What happens to a world.
 
-use nas_base::Kind;
+use nas_base::{Moment, Octets};
+use nas_handset::UeCommand;
 
-/// A command to the handset.
+/// A command to the network about the handset's subscriber.
 #[derive(Clone, Copy, Debug, PartialEq, Eq)]
-pub enum UeCommand {
-    /// Register (TS 24.501 clause 5.5.1).
-    Register(Kind),
+pub enum NetOrder {
+    /// To authenticate it, and to take a new security context into use with it (TS 24.501 clauses 5.4.1.3 and 5.4.2).
+    Authenticate,
+    /// To de-register it (clause 5.5.2.3).
+    Deregister,
 }
 
 /// One event of a run.
-#[derive(Clone, Copy, Debug, PartialEq, Eq)]
+#[derive(Drop)]
 pub enum Event {
     /// The handset is given a command.
     Command(UeCommand),
-    /// The uplink of this number, counted from 1, is delivered to the network: as often and in whatever order.
+    /// The network is given a command.
+    NetCommand(NetOrder),
+    /// The uplink of this number, counted from 1, is delivered to the network: as often and in whatever order, and as fresh as it was
+    /// sent.
     ToNet(u32),
     /// The downlink of this number, counted from 1, is delivered to the handset.
     ToUe(u32),
+    /// Octets that nobody need have sent reach the network, as the first of a connection where `fresh`.
+    InjectNet { fresh: bool, octets: Octets },
+    /// Octets that nobody need have sent reach the handset.
+    InjectUe(Octets),
+    /// The handset is told the moment.
+    UeAt(Moment),
+    /// The network is told the moment.
+    NetAt(Moment),
+    /// The handset loses its connection.
+    DropUe,
+    /// The network loses the link.
+    DropNet,
+    /// The handset is switched off and on.
+    Restart,
+    /// The random octets that the network takes from now on.
+    Random([u8; 16]),
 }
 
 /// The name of a refusal, as it is printed.
 #[derive(Clone, Copy, Debug, PartialEq, Eq)]
 pub enum RefusedWord {
-    /// The state of the handset forbids the command.
+    /// The command doesn't begin in this state.
     WrongState,
+    /// The context has no count left for the command's message.
+    Spent,
+    /// The handset is no subscriber.
+    UnknownSupi,
+    /// The subscriber has no sequence number left.
+    SqnSpent,
 }

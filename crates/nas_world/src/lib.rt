@@ -1,19 +1,34 @@
-//! Both ends together, with the log of what each has sent: a handset, a network, and the events that a script makes
-//! happen between them.
+//! Both ends together, with the logs of what each has sent, of what passed a check and of the security contexts that were taken into use: a
+//! handset, a network, and the events that a script makes happen between them.
 #![tactic(auto)]
 
+mod agreement;
+mod cards;
+mod commands;
 mod config;
+mod deliveries;
+#[cfg(test)]
+mod ends_tests;
 mod event;
-mod handset;
-mod network;
+mod honesty;
+mod logs;
+mod moments;
+mod passes;
 mod script;
 mod seen;
-mod send;
+mod sent;
+mod taken;
+#[cfg(test)]
+mod test_network;
+#[cfg(test)]
+mod tests;
 mod world;
 
-pub use crate::config::{HandsetConfig, NetConfig, Subscriber, Subscribers, WorldConfig};
-pub use crate::event::{Event, RefusedWord, UeCommand};
+pub use crate::cards::Card;
+pub use crate::config::WorldConfig;
+pub use crate::event::{Event, NetOrder, RefusedWord};
+pub use crate::logs::{SentLog, TakenLog};
+pub use crate::passes::{End, Heard, Passing};
 pub use crate::script::{Script, ScriptLine};
 pub use crate::seen::Seen;
-pub use crate::send::{Send, Sends, SentLog};
 pub use crate::world::World;

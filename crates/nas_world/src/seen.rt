@@ -1,7 +1,8 @@
 //! What is seen of an event.
 ghost use Rattle.std.specs.Prelude.{◌≡◌, [], true, false, Some, None};
 
-use crate::{RefusedWord, Sends};
+use crate::RefusedWord;
+use nas_security::Sends;
 use std::alloc::Global;
 
 /// What an event did, as far as it can be seen from outside.

@@ -1,154 +1,125 @@
 //! Both ends, and their events one by one.
-ghost use Rattle.std.specs.Prelude.{◌≡◌, ◌≤◌, ◌∷◌, [], ◌++◌, IfOk, OnErr, IsTrue, length};
-ghost use Rattle.mm_messages.specs.Messages.{spelling};
-ghost use Rattle.nas_world.specs.World.{agree, delivered_to_net, delivered_to_ue, first, honest, registered, step_of};
-ghost use Rattle.nas_world.specs.Logs.{sent_at};
+ghost use Rattle.std.specs.Prelude.{◌≡◌, IfOk, OnErr};
+ghost use Rattle.nas_world.specs.Events.{step_of};
+ghost use Rattle.nas_world.specs.State.{first, honest};
 
-use crate::{
-    Event, HandsetConfig, RefusedWord, Seen, Send, Sends, SentLog, UeCommand, WorldConfig, handset,
-    network,
-};
-use mm_messages::{Mm, encode_mm};
-use nas_base::{Kind, Memory, Octets, Writer};
+use crate::cards::cards_of;
+use crate::honesty::Judged;
+use crate::taken::Taken;
+use crate::{Event, Seen, SentLog, TakenLog, WorldConfig};
+use nas_base::{Memory, Supi};
+use nas_handset::Handset;
+use nas_network::Network;
+use nas_security::Sends;
 use std::alloc::Global;
 use std::marker::Model;
 
-/// Both ends with the log of what each has sent.
+/// A handset and a network, with the logs of what each has sent, of what passed a check, and of the security contexts that the handset
+/// took into use.
 #[derive(Drop)]
 pub struct World {
-    handset: HandsetConfig,
-    registering: bool,
-    sent: SentLog,
+    pub(crate) handset: Handset,
+    pub(crate) network: Network,
+    pub(crate) random: [u8; 16],
+    pub(crate) judged: Judged,
+    pub(crate) taken: Taken,
+    pub(crate) supi: Supi,
 }
 
 impl Model for World {
-    ghost use Rattle.nas_world.specs.World.{WorldState};
+    ghost use Rattle.nas_world.specs.State.{WorldState};
 
     ghost Value = { WorldState };
 
-    ghost view = { λ w. record { handset = w.handset; registering = w.registering; up = w.sent.up; down = w.sent.down } };
+    ghost view = { λ w. record { handset = w.handset; network = w.network; random = w.random; up = w.judged.up; down = w.judged.down; taken = w.taken; passes = w.judged.passes; plmn = w.judged.plmn; cards = w.judged.cards; supi = w.supi } };
 }
 
 impl World {
-    /// The world of no events: the handset is Deregistered and idle, and nothing was sent.
+    /// The world of no events: the handset is Deregistered and idle, the network knows nothing yet of its subscribers, and nothing was
+    /// sent.
+    ///
+    /// # Errors
+    ///
+    /// `Memory`.
     pub fn new(alloc: Global, config: &WorldConfig) -> Result<World, Memory>
         ensures { IfOk result (λ world. world ≡ first config.now) }
     {
+        let own = &config.handset;
+        let net = &config.net;
+        let handset = Handset::new(alloc, own)?;
+        let network = Network::new(alloc, net)?;
+        let cards = cards_of(alloc, net.subscribers.as_slice())?;
         Ok(World {
-            handset: config.handset.copy(),
-            registering: false,
-            sent: SentLog {
-                up: Sends::new(alloc),
-                down: Sends::new(alloc),
-            },
+            handset,
+            network,
+            random: [0; 16],
+            judged: Judged::new(alloc, net.plmn.copy(), cards),
+            taken: Taken::new(alloc),
+            supi: own.supi.copy(),
         })
     }
 
-    /// One event. Where memory is wanting, all is as before.
+    /// One event.
+    ///
+    /// # Errors
+    ///
+    /// `Memory`; all is then as before.
     pub fn step(&mut self, alloc: Global, event: &Event) -> Result<Seen, Memory>
         ensures ok { IfOk result (λ seen. step_of self.old event.now ≡ (self.new, seen)) }
         ensures err { OnErr result (self.new ≡ self.old) }
     {
         match event {
-            Event::Command(UeCommand::Register(kind)) => self.register(alloc, *kind),
+            Event::Command(command) => self.command(alloc, command),
+            Event::NetCommand(order) => self.order(alloc, *order),
             Event::ToNet(number) => self.to_net(alloc, *number),
             Event::ToUe(number) => self.to_ue(alloc, *number),
+            Event::InjectNet { fresh, octets } => self.inject_net(alloc, *fresh, octets),
+            Event::InjectUe(octets) => self.inject_ue(alloc, octets),
+            Event::UeAt(now) => self.ue_at(alloc, *now),
+            Event::NetAt(now) => self.net_at(alloc, *now),
+            Event::DropUe => self.drop_ue(alloc),
+            Event::DropNet => self.drop_net(alloc),
+            Event::Restart => self.restart(alloc),
+            Event::Random(words) => {
+                self.random = *words;
+                Ok(Seen::of(Sends::new(alloc)))
+            }
         }
     }
 
-    // The handset is told to register.
-    fn register(&mut self, alloc: Global, kind: Kind) -> Result<Seen, Memory>
-        ensures ok { IfOk result (λ seen. registered kind self.old ≡ (self.new, seen)) }
-        ensures err { OnErr result (self.new ≡ self.old) }
+    /// The handset.
+    pub fn handset(&self) -> &Handset
+        ensures { result.now ≡ self.now.handset }
     {
-        if kind != Kind::Initial || self.registering {
-            return Ok(Seen::refusal(alloc, RefusedWord::WrongState));
-        }
-        let message = handset::request(&self.handset);
-        let sends = send(alloc, &mut self.sent.up, true, &message)?;
-        self.registering = true;
-        Ok(Seen::of(sends))
+        &self.handset
     }
 
-    // An uplink is delivered to the network.
-    fn to_net(&mut self, alloc: Global, number: u32) -> Result<Seen, Memory>
-        ensures ok { IfOk result (λ seen. delivered_to_net (sent_at number self.old.up) self.old ≡ (self.new, seen)) }
-        ensures err { OnErr result (self.new ≡ self.old) }
+    /// The network.
+    pub fn network(&self) -> &Network
+        ensures { result.now ≡ self.now.network }
     {
-        let Some(uplink) = self.sent.up.get(number) else {
-            return Ok(Seen::unsent(alloc));
-        };
-        match network::answer(alloc, uplink.octets.as_slice())? {
-            Some(message) => Ok(Seen::of(send(alloc, &mut self.sent.down, false, &message)?)),
-            None => Ok(Seen::of(Sends::new(alloc))),
-        }
-    }
-
-    // A downlink is delivered to the handset.
-    fn to_ue(&mut self, alloc: Global, number: u32) -> Result<Seen, Memory>
-        ensures ok { IfOk result (λ seen. delivered_to_ue (sent_at number self.old.down) self.old ≡ (self.new, seen)) }
-        ensures err { OnErr result (self.new ≡ self.old) }
-    {
-        let Some(downlink) = self.sent.down.get(number) else {
-            return Ok(Seen::unsent(alloc));
-        };
-        if self.registering && handset::is_rejected(alloc, downlink.octets.as_slice())? {
-            self.registering = false;
-        }
-        Ok(Seen::of(Sends::new(alloc)))
+        &self.network
     }
 
     /// All that was sent.
     pub fn sent(&self) -> &SentLog
         ensures { result.now ≡ record { up = self.now.up; down = self.now.down } }
     {
-        &self.sent
+        self.judged.sent()
     }
 
-    /// Whether the handset is Registering and connected, or else Deregistered and idle.
-    pub fn registering(&self) -> bool
-        ensures { result ≡ self.now.registering }
+    /// The security contexts that the handset took into use.
+    pub fn taken(&self) -> &TakenLog
+        ensures { result.now ≡ self.now.taken }
     {
-        self.registering
+        self.taken.log()
     }
 
-    /// Whether all octets that passed a check had been sent by the other end: so far none can pass.
+    /// Whether nobody forged: all octets that passed a check had been sent before by the other end, under that challenge and count. The
+    /// verdict is kept as the run goes, so this walks over nothing.
     pub fn honest(&self) -> bool
-        ensures value { result ≡ honest self.now }
-        ensures yes { IsTrue result }
+        ensures { result ≡ honest self.now }
     {
-        true
+        self.judged.is_honest()
     }
-
-    /// Whether both ends agree on what they share: so far they share nothing.
-    pub fn agree(&self) -> bool
-        ensures value { result ≡ agree self.now }
-        ensures yes { IsTrue result }
-    {
-        true
-    }
-}
-
-// Sends a message on link 1: it is logged, and answered.
-fn send(alloc: Global, log: &mut Sends, fresh: bool, message: &Mm) -> Result<Sends, Memory>
-    requires { length (spelling message.now) ≤ 4096 }
-    ensures ok { IfOk result (λ sends. (sends ≡ record { link = 1; fresh = fresh; octets = spelling message.now } ∷ []) × (log.new ≡ log.old ++ sends)) }
-    ensures err { OnErr result (log.new ≡ log.old) }
-{
-    let mut out = Writer::new();
-    if encode_mm(message, &mut out).is_err() {
-        unreachable!();
-    }
-    let Ok(octets) = Octets::copy(alloc, out.octets()) else {
-        return Err(Memory);
-    };
-    let sent = Send {
-        link: 1,
-        fresh,
-        octets,
-    };
-    let mut sends = Sends::new(alloc);
-    sends.push(alloc, sent.copy(alloc)?)?;
-    log.push(alloc, sent)?;
-    Ok(sends)
 }

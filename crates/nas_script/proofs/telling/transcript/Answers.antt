@@ -3,10 +3,12 @@ use Rattle.std.proofs.Common.{◌∙◌, ◌+◌, ap, refl, subst, List, ℕ, is
 use Rattle.std.proofs.lemmas.Result.{err_from_is_err_and}
 use Rattle.nas_base.specs.Outside.{Tells}
 use Rattle.nas_base.proofs.SinkLaws.{tells_after, tells_front}
-use Rattle.nas_world.specs.World.{first, step_of}
+use Rattle.nas_world.specs.Events.{step_of}
+use Rattle.nas_world.specs.State.{WorldState, first}
 use Rattle.nas_script.specs.Fault.{is_output}
 use Rattle.nas_script.specs.Transcript.{events_text, head_text}
 use Rattle.nas_script.proofs.TranscriptLaws.{transcript_from, events_text-drop}
+use Rattle.nas_script.proofs.WorldLaws.{keeps_supi}
 use Rattle.nas_script.proofs.telling.transcript.Goals as goal
 
 pub returns-in_err-write_head : goal.returns-in_err-write_head
@@ -18,6 +20,7 @@ returns-in_err-write_head g c =
 pub loop-line-init : goal.loop-line-init
 loop-line-init g c = record {
   count = refl;
+  supi = ap (λ (w : WorldState). w.supi) c.in_ok-world.ensures;
   told = λ new now r rest.
       let whole = transcript_from c.args.config.now c.in_ok-world.world c.deref-line-items.result.now c.args.script.now c.in_ok-world.ensures (c.deref-line-items.ensures.value ∙ c.script.view_is) in
       subst (λ (t : List ℕ). Tells is_output (g.O.Sink.written c.args.out.now) new (g.O.Sink.fault_count c.args.out.now) now t r) whole
@@ -36,6 +39,7 @@ returns-in_err-write_event g c =
 pub loop-line-preserved : goal.loop-line-preserved
 loop-line-preserved g c = record {
   count = ap (λ n. n + 1) c.loop-line.invariant.count;
+  supi = ap (λ (w : WorldState). w.supi) c.in_ok-write_event.ensures.world ∙ keeps_supi c.loop-line.world c.line-item.result.event ∙ c.loop-line.invariant.supi;
   told = λ new now r rest.
       let later = events_text-drop c.loop-line.number c.loop-line.world c.write_event.new.world c.deref-line-items.result.now c.loop-line.line-index c.line-item.result c.loop-line-test.true c.line-item.is c.in_ok-write_event.ensures.world in
       c.loop-line.invariant.told new now r

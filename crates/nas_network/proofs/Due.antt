@@ -1,0 +1,41 @@
+-- The list of timers that are due, as it is found one by one.
+use Rattle.std.proofs.Common.{◌≡◌, ℕ, zero, suc, ◌+◌, ◌-◌, ◌<◌, List, [], ◌∷◌, ◌++◌, Some, None, max, refl, sym, arith}
+use Rattle.std.proofs.lemmas.Grind.{common_steps}
+use Rattle.nas_base.specs.Branches.{per}
+use Rattle.nas_network.specs.State.{NetworkState, SubscriberTimers, stopped_for}
+use Rattle.nas_network.specs.Network.{answered}
+use Rattle.nas_network.specs.Ticks.{DueTimer, due_within, first_due, ticked, told}
+use Rattle.nas_network.specs.declared.command.NetDelivery.{NetDelivery}
+
+none_within : (n now : ℕ) (ss : List SubscriberTimers) → first_due now ss ≡ None → due_within n now ss ≡ []
+unfolding per due_within
+none_within zero now ss none = refl
+none_within (suc n) now ss none = rw none refl
+
+some_within : (n now : ℕ) (ss : List SubscriberTimers) (d : DueTimer) → first_due now ss ≡ Some d →
+    due_within (suc n) now ss ≡ d ∷ due_within n now (stopped_for d.supi d.id ss)
+unfolding per due_within
+some_within n now ss d some = rw some refl
+
+-- where the found ones are put before the others, one more is found
+pub due_found : (c now : ℕ) (ss : List SubscriberTimers) (d : DueTimer) (list whole : List DueTimer) → c < 6144 → first_due now ss ≡ Some d →
+    list ++ due_within (6144 - c) now ss ≡ whole → (list ++ d ∷ []) ++ due_within (6144 - (c + 1)) now (stopped_for d.supi d.id ss) ≡ whole
+due_found c now ss d list whole within some all =
+    let one : 6144 - c ≡ suc (6144 - (c + 1)) = omega arith in
+    let next : due_within (6144 - c) now ss ≡ d ∷ due_within (6144 - (c + 1)) now (stopped_for d.supi d.id ss) = rw one (some_within (6144 - (c + 1)) now ss d some) in
+    grind (arith, common_steps)
+
+pub due_ended : (n now : ℕ) (ss : List SubscriberTimers) (list whole : List DueTimer) → first_due now ss ≡ None →
+    list ++ due_within n now ss ≡ whole → list ≡ whole
+due_ended n now ss list whole none all = let nothing : due_within n now ss ≡ [] = none_within n now ss none in grind (arith, common_steps)
+
+pub due_all : (n now : ℕ) (ss : List SubscriberTimers) (list whole : List DueTimer) → n ≡ 0 → list ++ due_within n now ss ≡ whole → list ≡ whole
+unfolding due_within
+due_all zero now ss list whole none all = grind (arith, common_steps)
+due_all (suc n) now ss list whole none all = absurd (omega arith)
+
+-- where none is due, nothing comes of a tick but its moment
+pub nothing_due : (rand : List ℕ) (now moment : ℕ) (n : NetworkState) (d : NetDelivery) → moment ≡ max n.moment now → first_due moment n.timers ≡ None →
+    d ≡ record { sends = []; passed = None } → answered (told moment n) d ≡ ticked rand now n
+unfolding ticked
+nothing_due rand now moment n d later none nothing = rw (sym later, none_within 6144 moment n.timers none, nothing) refl

@@ -1,0 +1,7 @@
+mod Beginnings
+mod Changed
+mod Due
+mod FirstOwners
+mod Owners
+mod Running
+mod Supis

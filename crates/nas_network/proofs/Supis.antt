@@ -1,0 +1,91 @@
+-- Whom timers and records are kept for.
+use Rattle.std.proofs.Common.{◌≡◌, ◌∙◌, ap, ap₂, refl, ℕ, Bool, true, false, List, [], ◌∷◌, None, Some, Result, Ok, Err, if◌then◌else◌}
+use Rattle.std.specs.Str.{bytes_eq}
+use Rattle.nas_timers.specs.Timers.{Running}
+use Rattle.milenage.specs.Home.{HomeRecord}
+use Rattle.amf_core.specs.Keyed.{all_current}
+use Rattle.amf_core.specs.State.{AmfState, is_same_subscriber, subscriber_in}
+use Rattle.amf_core.specs.Step.{Stepped, ended, finished, framed_of, started, step_of, worked}
+use Rattle.amf_core.specs.declared.inputs.AmfInput.{AmfInput}
+use Rattle.amf_core.specs.declared.inputs.AmfRefusal.{AmfRefusal}
+use Rattle.amf_core.specs.declared.subscriber.Subscriber.{Subscriber}
+use Rattle.amf_core.specs.declared.work.Work.{Work}
+use Rattle.amf_laws.proofs.Records.{are_equal, supi_stays}
+use Rattle.nas_network.specs.Owners.{kept, timed}
+use Rattle.nas_network.specs.State.{SubscriberTimers, changed_for, timers_of}
+
+abbrev pub is_one_of : List ℕ → List (List ℕ) → Bool
+is_one_of x [] = false
+is_one_of x (y ∷ ys) = if bytes_eq y x then true else is_one_of x ys
+
+-- a change is one of the timers of its SUPI
+own_changes : (x : List ℕ) (change : List Running → List Running) (ss : List SubscriberTimers) → is_one_of x (timed ss) ≡ true
+    → timers_of x (changed_for x change ss) ≡ change (timers_of x ss)
+own_changes x change [] there = absurd (cc there)
+own_changes x change (s ∷ ss) there = by_test (bytes_eq s.supi x) refl there (own_changes x change ss) where
+  by_test : (b : Bool) → bytes_eq s.supi x ≡ b → (if b then true else is_one_of x (timed ss)) ≡ true
+      → (is_one_of x (timed ss) ≡ true → timers_of x (changed_for x change ss) ≡ change (timers_of x ss))
+      → timers_of x (if b then record s { timers = change s.timers } ∷ ss else s ∷ changed_for x change ss)
+      ≡ change (if b then s.timers else timers_of x ss)
+  by_test true is h rest = rw is refl
+  by_test false is h rest = rw is (rest h)
+
+pub own_change : (x supi : List ℕ) (change : List Running → List Running) (ss : List SubscriberTimers) → bytes_eq supi x ≡ true
+    → is_one_of x (timed ss) ≡ true → timers_of x (changed_for supi change ss) ≡ change (timers_of x ss)
+own_change x supi change ss is there =
+    ap (λ (y : List ℕ). timers_of x (changed_for y change ss)) (are_equal supi x is) ∙ own_changes x change ss there
+
+pub others_stay : (x supi : List ℕ) (change : List Running → List Running) (ss : List SubscriberTimers) → bytes_eq supi x ≡ false
+    → timers_of x (changed_for supi change ss) ≡ timers_of x ss
+others_stay x supi change [] other = refl
+others_stay x supi change (s ∷ ss) other = by_test (bytes_eq s.supi supi) refl (others_stay x supi change ss other) where
+  by_test : (b : Bool) → bytes_eq s.supi supi ≡ b → timers_of x (changed_for supi change ss) ≡ timers_of x ss
+      → timers_of x (if b then record s { timers = change s.timers } ∷ ss else s ∷ changed_for supi change ss) ≡ timers_of x (s ∷ ss)
+  by_test true is rest =
+      let not_x : bytes_eq s.supi x ≡ false = ap (λ (y : List ℕ). bytes_eq y x) (are_equal s.supi supi is) ∙ other in rw not_x refl
+  by_test false is rest = ap (λ (ts : List Running). if bytes_eq s.supi x then s.timers else ts) rest
+
+-- and leaves the SUPIs
+pub timed_stay : (supi : List ℕ) (change : List Running → List Running) (ss : List SubscriberTimers)
+    → timed (changed_for supi change ss) ≡ timed ss
+timed_stay supi change [] = refl
+timed_stay supi change (s ∷ ss) = by_test (bytes_eq s.supi supi) (timed_stay supi change ss) where
+  by_test : (b : Bool) → timed (changed_for supi change ss) ≡ timed ss
+      → timed (if b then record s { timers = change s.timers } ∷ ss else s ∷ changed_for supi change ss) ≡ s.supi ∷ timed ss
+  by_test true rest = refl
+  by_test false rest = ap (λ (ys : List (List ℕ)). s.supi ∷ ys) rest
+
+-- of any other SUPI no timers are kept, and no record
+pub no_timers_of : (x : List ℕ) (ss : List SubscriberTimers) → is_one_of x (timed ss) ≡ false → timers_of x ss ≡ []
+no_timers_of x [] none = refl
+no_timers_of x (s ∷ ss) none = by_test (bytes_eq s.supi x) none (no_timers_of x ss) where
+  by_test : (b : Bool) → (if b then true else is_one_of x (timed ss)) ≡ false → (is_one_of x (timed ss) ≡ false → timers_of x ss ≡ [])
+      → (if b then s.timers else timers_of x ss) ≡ []
+  by_test true h rest = absurd (cc h)
+  by_test false h rest = rest h
+
+pub no_record_of : (x : List ℕ) (ss : List Subscriber) → is_one_of x (kept ss) ≡ false → subscriber_in x ss ≡ None
+no_record_of x [] none = refl
+no_record_of x (s ∷ ss) none = by_test (bytes_eq s.supi x) none (no_record_of x ss) where
+  by_test : (b : Bool) → (if b then true else is_one_of x (kept ss)) ≡ false → (is_one_of x (kept ss) ≡ false → subscriber_in x ss ≡ None)
+      → (if b then Some s else subscriber_in x ss) ≡ None
+  by_test true h rest = absurd (cc h)
+  by_test false h rest = rest h
+
+-- a step changes no SUPI
+all_kept : (changes ss : List Subscriber) → kept (all_current is_same_subscriber changes ss) ≡ kept ss
+all_kept changes [] = refl
+all_kept changes (s ∷ ss) = ap₂ (λ (y : List ℕ) (ys : List (List ℕ)). y ∷ ys) (supi_stays changes s) (all_kept changes ss)
+
+abbrev pub SupisStay : AmfState → Result Stepped AmfRefusal → Type 0
+SupisStay a (Ok new) = kept new.amf.subscribers ≡ kept a.subscribers
+SupisStay a (Err refusal) = Unit {0}
+
+done_kept : (a : AmfState) (home : List HomeRecord) (done : Result Work AmfRefusal) → SupisStay a (finished a home done)
+unfolding ended
+done_kept a home (Ok w) = all_kept (framed_of w).amf.changes.subscribers a.subscribers
+done_kept a home (Err refusal) = tt
+
+pub supis_stay : (a : AmfState) (home : List HomeRecord) (now : ℕ) (rand : List ℕ) (input : AmfInput)
+    → SupisStay a (step_of a home now rand input)
+supis_stay a home now rand input = done_kept a home (worked input (started a home now rand))

@@ -1,0 +1,11 @@
+use Rattle.std.proofs.Common.{subst, sym}
+use Rattle.nas_network.specs.Config.{IsNetwork, NetValues}
+use Rattle.nas_network.specs.Owners.{HaveOwners}
+use Rattle.nas_network.specs.State.{NetworkState}
+use Rattle.nas_network.proofs.FirstOwners.{first_owned}
+use Rattle.nas_network.proofs.network.Network.new.Goals as goal
+
+pub invariant_of-result : goal.invariant_of-result
+invariant_of-result c =
+    let config : IsNetwork c.args.config.now = subst (λ (n : NetValues). IsNetwork n) c.config.view_is c.config.invariant in
+    subst (λ (n : NetworkState). HaveOwners n) (sym c.in_ok-parts.ensures) (first_owned c.args.config.now config)

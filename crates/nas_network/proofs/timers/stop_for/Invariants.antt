@@ -1,0 +1,10 @@
+use Rattle.std.proofs.Common.{◌≡◌, ◌++◌, take, drop}
+use Rattle.nas_network.specs.State.{stopped_for}
+use Rattle.nas_network.proofs.timers.stop_for.Given as goal
+
+-- the timers so far are as they were, and the SUPI's are among the others
+abbrev pub invariant-loop-subscriber : goal.invariant-loop-subscriber
+invariant-loop-subscriber l = record {
+  same : l.timers ≡ l.initial.timers;
+  told : take l.subscriber-index l.timers ++ stopped_for l.supi l.id (drop l.subscriber-index l.timers) ≡ stopped_for l.supi l.id l.timers;
+}

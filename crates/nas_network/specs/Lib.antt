@@ -1,0 +1,6 @@
+pub mod Config
+pub mod Network
+pub mod Owners
+pub mod State
+pub mod Ticks
+pub mod Turns

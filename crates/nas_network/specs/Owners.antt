@@ -1,0 +1,36 @@
+-- Which timers of procedures run at a network (TS 24.501 clause 10.2).
+use Rattle.std.specs.Prelude.{◌≡◌, is_some, ℕ, List, [], ◌∷◌}
+use Rattle.nas_timers.specs.Timers as timers
+use Rattle.nas_timers.specs.Timers.{deadline_of}
+use Rattle.nas_timers.specs.declared.timer_id.TimerId.TheVariants.{T3522, T3550, T3560}
+use Rattle.amf_core.specs.declared.subscriber.Subscriber.{Subscriber}
+use Rattle.amf_laws.specs.Timers.{AreDistinct, FitProcedures, Running}
+use Rattle.nas_network.specs.State.{NetworkState, SubscriberTimers, timers_of}
+
+-- those of the three that have a deadline
+abbrev pub running_of : List timers.Running → Running
+running_of ts = record {
+  t3560 = is_some (deadline_of T3560 ts);
+  t3550 = is_some (deadline_of T3550 ts);
+  t3522 = is_some (deadline_of T3522 ts);
+}
+
+-- those of a SUPI
+abbrev pub running_for : List SubscriberTimers → List ℕ → Running
+running_for ss supi = running_of (timers_of supi ss)
+
+-- whom timers are kept for, and whom the AMF keeps
+abbrev pub timed : List SubscriberTimers → List (List ℕ)
+timed [] = []
+timed (s ∷ ss) = s.supi ∷ timed ss
+
+abbrev pub kept : List Subscriber → List (List ℕ)
+kept [] = []
+kept (s ∷ ss) = s.supi ∷ kept ss
+
+-- The timer of a procedure runs exactly while that procedure is open, for each SUPI. No SUPI is kept twice, and timers are kept for
+-- those that the AMF keeps, in their order.
+pub record HaveOwners (n : NetworkState) : Type 0 where
+  pub fit : FitProcedures n.amf (running_for n.timers)
+  pub distinct : AreDistinct n.amf.subscribers
+  pub same : timed n.timers ≡ kept n.amf.subscribers

@@ -1,0 +1,182 @@
+//! What a network is made with.
+ghost use Rattle.std.specs.Prelude.{◌≡◌, [], ◌∷◌, ◌++◌, OnOk, OnErr};
+ghost use Rattle.milenage.specs.Checking.{is_for_5g};
+ghost use Rattle.nas_network.specs.Config.{dnns_from, is_pool_size, is_subscriber, pool_fits};
+
+use byteorder::{BigEndian, ByteOrder};
+use nas_base::{Memory, Plmn, Supi};
+use nas_elements::{Ambr, Dnn, Nssai, Timer3};
+use nas_timers::Durations;
+use std::alloc::Global;
+use std::marker::Model;
+
+/// 1 to 8 names of data networks.
+#[derive(Drop)]
+pub struct Dnns {
+    pub items: Vec<Dnn>,
+}
+
+impl Model for Dnns {
+    ghost use Rattle.std.specs.Prelude.{ℕ, List, ◌≡◌, true};
+    ghost use Rattle.nas_network.specs.Config.{has_dnns_size};
+
+    ghost Value = { List (List ℕ) };
+
+    ghost view = { λ d. d.items.items };
+
+    ghost invariant = { λ d. has_dnns_size d.items.items ≡ true };
+}
+
+impl Dnns {
+    /// These names, or None exactly where they are none or more than 8.
+    pub fn of(items: Vec<Dnn>) -> Option<Dnns>
+        ensures { result ≡ dnns_from items.items }
+    {
+        if items.is_empty() || items.len() > 8 {
+            return None;
+        }
+        Some(Dnns { items })
+    }
+
+    /// The names in order.
+    pub fn as_slice(&self) -> &[Dnn]
+        ensures { result.now ≡ self.now }
+    {
+        self.items.as_slice()
+    }
+}
+
+/// A subscriber: the SUPI, K and OPc, the AMF field of the vectors, whose first bit is 1, SQN_HE below 2^48, and the data networks and
+/// slices that are subscribed (TS 33.501 clause 6.1.3.2, TS 33.102 clause 6.3.2, TS 23.501 clause 5.15.3).
+#[derive(Drop)]
+pub struct Subscriber {
+    pub supi: Supi,
+    pub k: [u8; 16],
+    pub opc: [u8; 16],
+    pub field: [u8; 2],
+    pub sqn: u64,
+    pub dnns: Dnns,
+    pub slices: Nssai,
+}
+
+impl Model for Subscriber {
+    ghost use Rattle.nas_network.specs.Config.{IsSubscriber, SubscriberValues};
+
+    ghost Value = { SubscriberValues };
+
+    ghost view = { λ s. record { supi = s.supi; k = s.k; opc = s.opc; field = s.field; sqn = s.sqn; dnns = s.dnns; slices = s.slices } };
+
+    ghost invariant = { λ s. IsSubscriber s.field s.sqn };
+}
+
+/// Subscribers, in the order of the configuration.
+#[derive(Drop)]
+pub struct Subscribers {
+    pub items: Vec<Subscriber>,
+}
+
+impl Model for Subscribers {
+    ghost use Rattle.std.specs.Prelude.{List};
+    ghost use Rattle.nas_network.specs.Config.{SubscriberValues};
+
+    ghost Value = { List SubscriberValues };
+
+    ghost view = { λ s. s.items.items };
+}
+
+impl Subscribers {
+    /// No subscriber.
+    pub fn new(alloc: Global) -> Subscribers
+        ensures { result ≡ [] }
+    {
+        Subscribers {
+            items: Vec::new(alloc),
+        }
+    }
+
+    /// One more subscriber at the end.
+    ///
+    /// # Errors
+    ///
+    /// `Memory`; nothing then changes.
+    pub fn push(&mut self, _alloc: Global, subscriber: Subscriber) -> Result<(), Memory>
+        ensures ok { OnOk result (self.new ≡ self.old ++ subscriber ∷ []) }
+        ensures err { OnErr result (self.new ≡ self.old) }
+    {
+        match self.items.push(subscriber) {
+            Ok(()) => Ok(()),
+            Err(_) => Err(Memory),
+        }
+    }
+
+    /// Whether one of them has this SUPI.
+    pub fn contain(&self, supi: &Supi) -> bool
+        ensures { result ≡ is_subscriber supi.now self.now }
+    {
+        for subscriber in &self.items {
+            if subscriber.supi == *supi {
+                return true;
+            }
+        }
+        false
+    }
+
+    /// The subscribers in order.
+    pub fn as_slice(&self) -> &[Subscriber]
+        ensures { result.now ≡ self.now }
+    {
+        self.items.as_slice()
+    }
+}
+
+/// A network: its identity, its region, set and pointer as 5G-GUTIs have them, the 5G-TMSI that is assigned first, 1 at least, the
+/// ciphering that is preferred, 0 or 2, its tracking area, T3512 as handsets are told it, its pool of 1 to 65,536 IPv4 addresses, of which
+/// the last is 255.255.255.255 at most, the session AMBR, how long timers run, and 1 to 64 subscribers, whose SUPIs are distinct and begin
+/// with the digits of the network (TS 23.003 clauses 2.2 and 2.10.1, TS 24.501 clause 10).
+#[derive(Drop)]
+pub struct NetConfig {
+    pub plmn: Plmn,
+    pub region: u8,
+    pub set_pointer: u16,
+    pub tmsi: u32,
+    pub nea: u8,
+    pub tac: [u8; 3],
+    pub t3512: Timer3,
+    pub pool: [u8; 4],
+    pub pool_size: u32,
+    pub ambr: Ambr,
+    pub durations: Durations,
+    pub subscribers: Subscribers,
+}
+
+impl Model for NetConfig {
+    ghost use Rattle.nas_network.specs.Config.{IsNetwork, NetValues};
+
+    ghost Value = { NetValues };
+
+    ghost view = { λ n. record { plmn = n.plmn; region = n.region; set_pointer = n.set_pointer; tmsi = n.tmsi; nea = n.nea; tac = n.tac; t3512 = n.t3512; pool = n.pool; pool_size = n.pool_size; ambr = n.ambr; durations = n.durations; subscribers = n.subscribers } };
+
+    ghost invariant = { λ n. IsNetwork (record { plmn = n.plmn; region = n.region; set_pointer = n.set_pointer; tmsi = n.tmsi; nea = n.nea; tac = n.tac; t3512 = n.t3512; pool = n.pool; pool_size = n.pool_size; ambr = n.ambr; durations = n.durations; subscribers = n.subscribers }) };
+}
+
+/// Whether so many addresses from this one on end at or below 255.255.255.255.
+pub fn pool_fits(pool: &[u8; 4], size: u32) -> bool
+    ensures { result ≡ pool_fits pool.now size }
+{
+    let first = u64::from(BigEndian::read_u32(pool));
+    first + u64::from(size) <= 0x1_0000_0000
+}
+
+/// Whether a pool may have so many addresses: 1 to 65,536.
+pub fn is_pool_size(size: u32) -> bool
+    ensures { result ≡ is_pool_size size }
+{
+    1 <= size && size <= 65_536
+}
+
+/// Whether the first bit of an AMF field is 1, which says that a vector is one for 5G (TS 33.501 clause 6.1.3.2).
+pub fn is_for_5g(field: &[u8; 2]) -> bool
+    ensures { result ≡ is_for_5g field.now }
+{
+    field[0] >= 128
+}

@@ -1,0 +1,22 @@
+//! A network: its AMF and its home network with the timers that run, in moments that are told (TS 24.501 clause 5, TS 33.102 clause
+//! 6.3).
+#![tactic(auto)]
+
+mod beginning;
+mod command;
+mod config;
+mod network;
+mod parts;
+#[cfg(test)]
+mod test_network;
+#[cfg(test)]
+mod tests;
+mod ticks;
+mod timers;
+mod turn;
+
+pub use crate::command::{NetCommand, NetDelivery, NetRefusal};
+pub use crate::config::{
+    Dnns, NetConfig, Subscriber, Subscribers, is_for_5g, is_pool_size, pool_fits,
+};
+pub use crate::network::Network;

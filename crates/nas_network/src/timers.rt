@@ -1,0 +1,108 @@
+//! The timers of the subscribers.
+ghost use Rattle.std.specs.Prelude.{◌≡◌, map, IfOk};
+ghost use Rattle.nas_network.specs.State.{deadline_for, no_timers, started_for, stopped_for};
+
+use crate::Subscriber;
+use nas_base::{Memory, Moment, Supi};
+use nas_timers::{TimerId, Timers};
+use std::alloc::Global;
+use std::marker::Model;
+
+/// The timers of a subscriber.
+#[derive(Drop)]
+pub struct SubscriberTimers {
+    pub supi: Supi,
+    pub timers: Timers,
+}
+
+impl Model for SubscriberTimers {
+    ghost use Rattle.nas_network.specs.State.{SubscriberTimers as Parts};
+
+    ghost Value = { Parts };
+
+    ghost view = { λ s. record { supi = s.supi; timers = s.timers } };
+}
+
+impl SubscriberTimers {
+    // An equal value.
+    fn copy(&self) -> SubscriberTimers
+        ensures { result ≡ self.now }
+    {
+        SubscriberTimers {
+            supi: self.supi.copy(),
+            timers: self.timers.copy(),
+        }
+    }
+
+    // None runs yet.
+    fn none(subscriber: &Subscriber) -> SubscriberTimers
+        ensures { result ≡ no_timers subscriber.now }
+    {
+        SubscriberTimers {
+            supi: subscriber.supi.copy(),
+            timers: Timers::new(),
+        }
+    }
+}
+
+/// Of none of the subscribers a timer runs.
+pub fn none_run(alloc: Global, subscribers: &[Subscriber]) -> Result<Vec<SubscriberTimers>, Memory>
+    ensures { IfOk result (λ timers. timers.items ≡ map no_timers subscribers.now) }
+{
+    let mut timers = Vec::new(alloc);
+    for subscriber in subscribers {
+        if timers.push(SubscriberTimers::none(subscriber)).is_err() {
+            return Err(Memory);
+        }
+    }
+    Ok(timers)
+}
+
+/// Equal timers.
+pub fn copies(alloc: Global, from: &[SubscriberTimers]) -> Result<Vec<SubscriberTimers>, Memory>
+    ensures { IfOk result (λ timers. timers.items ≡ from.now) }
+{
+    let mut timers = Vec::new(alloc);
+    for subscriber in from {
+        if timers.push(subscriber.copy()).is_err() {
+            return Err(Memory);
+        }
+    }
+    Ok(timers)
+}
+
+/// A timer of a subscriber is started.
+pub fn start_for(timers: &mut [SubscriberTimers], supi: &Supi, id: TimerId, at: Moment)
+    ensures { timers.new ≡ started_for supi.now id at timers.old }
+{
+    for subscriber in timers.iter_mut() {
+        if subscriber.supi == *supi {
+            subscriber.timers.start(id, at);
+            return;
+        }
+    }
+}
+
+/// A timer of a subscriber is stopped.
+pub fn stop_for(timers: &mut [SubscriberTimers], supi: &Supi, id: TimerId)
+    ensures { timers.new ≡ stopped_for supi.now id timers.old }
+{
+    for subscriber in timers.iter_mut() {
+        if subscriber.supi == *supi {
+            subscriber.timers.stop(id);
+            return;
+        }
+    }
+}
+
+/// The deadline of a timer of a subscriber.
+pub fn deadline_for(timers: &[SubscriberTimers], supi: &Supi, id: TimerId) -> Option<Moment>
+    ensures { result ≡ deadline_for supi.now id timers.now }
+{
+    for subscriber in timers {
+        if subscriber.supi == *supi {
+            return subscriber.timers.deadline(id);
+        }
+    }
+    None
+}

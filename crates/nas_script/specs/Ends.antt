@@ -1,0 +1,79 @@
+-- The lines of both ends in a transcript.
+use Rattle.std.specs.Prelude.{ℕ, Bool, List, [], ◌∷◌, ◌++◌, codes, Option, Some, None, if◌then◌else◌}
+use Rattle.std.specs.Fmt.{decimal}
+use Rattle.byteorder.specs.Endian.{big_bytes}
+use Rattle.hex.specs.Hex.{encode_lower}
+use Rattle.nas_base.specs.declared.state_words.AmfWord.{AmfWord}
+use Rattle.nas_base.specs.declared.state_words.AmfWord.TheVariants as amf
+use Rattle.nas_base.specs.declared.state_words.MmWord.{MmWord}
+use Rattle.nas_base.specs.declared.state_words.MmWord.TheVariants as mm
+use Rattle.nas_elements.specs.declared.guti.Guti.{Guti}
+use Rattle.nas_security.specs.Contexts.{SecurityContext}
+use Rattle.amf_core.specs.declared.view.NetView.{NetView}
+use Rattle.ue_mm.specs.declared.view.UeView.{UeView}
+
+-- the handset's state; a registration is told in the same way wherever it began
+unfoldable pub mm_text : MmWord → List ℕ
+mm_text mm.Deregistered = codes "Deregistered"
+mm_text mm.RegisteringNew = codes "Registering"
+mm_text mm.RegisteringAgain = codes "Registering"
+mm_text mm.Registered = codes "Registered"
+mm_text mm.Serving = codes "Serving"
+mm_text mm.Deregistering = codes "Deregistering"
+
+-- the state of its subscriber
+unfoldable pub amf_text : AmfWord → List ℕ
+amf_text amf.Deregistered = codes "Deregistered"
+amf_text amf.Common = codes "Common"
+amf_text amf.Registered = codes "Registered"
+amf_text amf.Deregistering = codes "Deregistering"
+
+-- its connection, with the blanks around it
+unfoldable pub connection_text : Bool → List ℕ
+connection_text connected = if connected then codes " connected " else codes " idle "
+
+-- what isn't there
+unfoldable pub absent_text : List ℕ
+absent_text = codes "-"
+
+-- a 5G-TMSI: 8 hex digits
+unfoldable pub tmsi_text : Guti → List ℕ
+tmsi_text guti = encode_lower (big_bytes 4 guti.tmsi)
+
+abbrev pub guti_text : Option Guti → List ℕ
+guti_text None = absent_text
+guti_text (Some guti) = tmsi_text guti
+
+-- the ngKSI of a context
+unfoldable pub ksi_text : SecurityContext → List ℕ
+ksi_text context = decimal context.ksi
+
+abbrev pub context_text : Option SecurityContext → List ℕ
+context_text None = absent_text
+context_text (Some context) = ksi_text context
+
+-- those that are kept, the older first
+abbrev pub others_text : List Guti → List ℕ
+others_text [] = []
+others_text (guti ∷ gutis) = codes "," ++ (tmsi_text guti ++ others_text gutis)
+
+abbrev pub kept_text : List Guti → List ℕ
+kept_text [] = absent_text
+kept_text (guti ∷ gutis) = tmsi_text guti ++ others_text gutis
+
+-- the handset: its state, its connection, its 5G-TMSI, and the ngKSI of its context
+unfoldable pub ue_text : UeView → List ℕ
+ue_text v =
+    codes "  ue " ++ (mm_text v.state ++ (connection_text v.connected ++ (guti_text v.guti ++ (codes " " ++ (context_text v.current ++ codes "\n")))))
+
+-- its subscriber: the state, the 5G-TMSIs that are kept, and the ngKSI of the context in use
+unfoldable pub subscriber_text : NetView → List ℕ
+subscriber_text v =
+    codes "  net " ++ (amf_text v.state ++ (codes " " ++ (kept_text v.kept ++ (codes " " ++ (context_text v.in_use ++ codes "\n")))))
+
+unfoldable pub no_subscriber_text : List ℕ
+no_subscriber_text = codes "  net none - -\n"
+
+abbrev pub net_text : Option NetView → List ℕ
+net_text None = no_subscriber_text
+net_text (Some view) = subscriber_text view

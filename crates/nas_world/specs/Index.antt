@@ -1,0 +1,34 @@
+-- What the index of a log of messages says.
+use Rattle.std.specs.Prelude.{◌≡◌, ℕ, Bool, true, false, cond, ◌==◌, ◌&&◌, List}
+use Rattle.std.specs.List.{list_any}
+use Rattle.std.specs.Str.{bytes_eq}
+use Rattle.indexmap.specs.IndexSet.{IndexSet, contains}
+use Rattle.nas_base.specs.Branches.{per}
+use Rattle.nas_security.specs.declared.sends.Pass.{Pass}
+use Rattle.nas_security.specs.declared.sends.Send.{Send}
+use Rattle.nas_world.specs.declared.sent.SentKey.{SentKey}
+
+-- a key that a message is found by
+pub record IsKeyOf (key : SentKey) (pass : Pass) (octets : List ℕ) : Type 0 where
+  pub supi : key.supi.items ≡ pass.supi
+  pub sqn : key.sqn ≡ pass.challenge.sqn
+  pub rand : key.rand ≡ pass.challenge.rand
+  pub count : key.count ≡ pass.count
+  pub text : key.octets.items ≡ octets
+
+-- whether a message that was sent has a key
+abbrev pub has_parts : SentKey → Pass → List ℕ → Bool
+has_parts key own octets =
+    bytes_eq own.supi key.supi.items
+    && (own.challenge.sqn == key.sqn && (bytes_eq own.challenge.rand key.rand && (own.count == key.count && bytes_eq octets key.octets.items)))
+
+abbrev pub has_key : SentKey → Send → Bool
+has_key key s = per s.pass false (λ (own : Pass). has_parts key own s.octets)
+
+-- an index finds exactly the keys of the messages of a log
+pub record Says {S : Type 0} (eq : SentKey → SentKey → Bool) (index : IndexSet SentKey S) (log : List Send) : Type 0 where
+  pub says : (key : SentKey) → contains eq index key ≡ list_any (has_key key) log
+
+-- an index finds what it found before, and the key of one message more
+pub record Notes {S : Type 0} (eq : SentKey → SentKey → Bool) (pass : Pass) (octets : List ℕ) (old new : IndexSet SentKey S) : Type 0 where
+  pub notes : (key : SentKey) → contains eq new key ≡ cond (has_parts key pass octets) true (contains eq old key)

@@ -1,0 +1,66 @@
+//! What both ends sent, and the contexts that the handset took into use.
+ghost use Rattle.std.specs.Prelude.{◌≡◌, option_copied, IfOk};
+ghost use Rattle.nas_world.specs.Logs.{sent_at};
+
+use nas_base::Memory;
+use nas_security::{Context, Send, Sends};
+use std::alloc::Global;
+use std::marker::Model;
+
+/// All that was sent: up by the handset, down by the network. Each is numbered from 1.
+#[derive(Drop)]
+pub struct SentLog {
+    pub up: Sends,
+    pub down: Sends,
+}
+
+/// The security contexts that the handset took into use, in order.
+#[derive(Drop)]
+pub struct TakenLog {
+    pub items: Vec<Context>,
+}
+
+impl Model for TakenLog {
+    ghost use Rattle.std.specs.Prelude.{List};
+    ghost use Rattle.nas_security.specs.Contexts.{SecurityContext};
+
+    ghost Value = { List SecurityContext };
+
+    ghost view = { λ t. t.items.items };
+}
+
+/// A copy of the message of this number, counted from 1, if there is one.
+///
+/// # Errors
+///
+/// `Memory`.
+pub fn copied_at(alloc: Global, sends: &Sends, number: u32) -> Result<Option<Send>, Memory>
+    ensures { IfOk result (λ send. send ≡ sent_at number sends.now) }
+{
+    match at(sends, number) {
+        None => Ok(None),
+        Some(send) => Ok(Some(send.copy(alloc)?)),
+    }
+}
+
+// The message of this number, counted from 1.
+fn at(sends: &Sends, number: u32) -> Option<&Send>
+    ensures { option_copied result ≡ sent_at number sends.now }
+{
+    sends.as_slice().get((number as usize).checked_sub(1)?)
+}
+
+/// Equal messages.
+///
+/// # Errors
+///
+/// `Memory`.
+pub fn copied(alloc: Global, from: &Sends) -> Result<Sends, Memory>
+    ensures { IfOk result (λ copies. copies ≡ from.now) }
+{
+    let mut copies = Sends::new(alloc);
+    for send in from.as_slice() {
+        copies.push(alloc, send.copy(alloc)?)?;
+    }
+    Ok(copies)
+}
