@@ -37,11 +37,6 @@ fn fresh(alloc: Global, network: &mut Network, link: u16, text: &str) -> Result<
     told(alloc, &delivery.ok().ok_or("memory")?)
 }
 
-fn tick(alloc: Global, network: &mut Network, moment: u64) -> Result<String, Fail> {
-    let delivery = network.tick(alloc, &RAND, Moment::at(moment));
-    told(alloc, &delivery.ok().ok_or("memory")?)
-}
-
 fn word(network: &Network, last: u8) -> Result<AmfWord, Fail> {
     Ok(network.view(&supi(last)?).ok_or("a subscriber")?.state)
 }
@@ -121,12 +116,30 @@ fn reads_the_first_of_equal_elements(rt: HostRuntime) -> Result<(), Fail> {
     let sent = fresh(alloc, &mut network, 1, REQUEST_OF_1)?;
     assert_eq!(rt; sent.as_str(), "");
     assert!(rt; word(&network, 1)? == AmfWord::Common);
-    // A copy goes its own way.
+    Ok(())
+}
+
+#[test]
+fn copies_go_their_own_way(rt: HostRuntime) -> Result<(), Fail> {
+    let alloc = rt.alloc();
+    let mut network = network(alloc, 1, 0xff9bb4d0b606)?;
+    fresh(alloc, &mut network, 1, REQUEST_OF_1)?;
     let copy = network.copy(alloc).ok().ok_or("memory")?;
     network.drop_link(alloc, 1).ok().ok_or("memory")?;
     assert!(rt; word(&network, 1)? == AmfWord::Deregistered);
     assert!(rt; word(&copy, 1)? == AmfWord::Common);
     Ok(())
+}
+
+// What is done to a network.
+#[derive(Drop)]
+enum Act {
+    // These octets come up this link, as the first of a connection.
+    First(u16, &'static str),
+    // These come behind them.
+    Next(u16, &'static str),
+    At(u64),
+    Lose(u16),
 }
 
 // The links of what was sent, in order.
@@ -140,55 +153,129 @@ fn links(alloc: Global, delivery: &NetDelivery) -> Result<String, Fail> {
     Ok(text)
 }
 
-fn links_at(alloc: Global, network: &mut Network, moment: u64) -> Result<String, Fail> {
-    let delivery = network.tick(alloc, &RAND, Moment::at(moment));
+fn uplink(
+    alloc: Global,
+    network: &mut Network,
+    link: u16,
+    fresh: bool,
+    text: &str,
+) -> Result<String, Fail> {
+    let octets = hex::decode(alloc, text).ok().ok_or("hex")?;
+    let delivery = network.deliver(alloc, &RAND, link, fresh, &octets);
     links(alloc, &delivery.ok().ok_or("memory")?)
 }
 
-#[test]
-fn fires_by_deadline_and_place(rt: HostRuntime) -> Result<(), Fail> {
-    let alloc = rt.alloc();
-    let mut network = network_of_two(alloc)?;
-    // The second subscriber's challenge is the first.
-    fresh(alloc, &mut network, 7, REQUEST_OF_1)?;
-    fresh(alloc, &mut network, 9, REQUEST_OF_2)?;
-    assert_eq!(rt; links_at(alloc, &mut network, 5999)?.as_str(), "");
-    assert_eq!(rt; links_at(alloc, &mut network, 6000)?.as_str(), "9 7 ");
-    assert_eq!(rt; links_at(alloc, &mut network, 6000)?.as_str(), "");
-    // The next deadlines are one moment apart.
-    let mut network = network_of_two(alloc)?;
-    fresh(alloc, &mut network, 7, REQUEST_OF_1)?;
-    tick(alloc, &mut network, 1)?;
-    // An earlier moment is no way back.
-    tick(alloc, &mut network, 0)?;
-    fresh(alloc, &mut network, 9, REQUEST_OF_2)?;
-    assert_eq!(rt; links_at(alloc, &mut network, 6000)?.as_str(), "7 ");
-    assert_eq!(rt; links_at(alloc, &mut network, 6001)?.as_str(), "9 ");
-    assert_eq!(rt; links_at(alloc, &mut network, 12_001)?.as_str(), "7 9 ");
-    // The loss of a link ends what was begun on it, and nothing else.
-    network.drop_link(alloc, 7).ok().ok_or("memory")?;
-    assert_eq!(rt; links_at(alloc, &mut network, 100_000)?.as_str(), "9 ");
-    assert!(rt; word(&network, 1)? == AmfWord::Deregistered);
-    assert!(rt; word(&network, 2)? == AmfWord::Common);
-    // The fifth expiry ends the other challenge too.
-    tick(alloc, &mut network, 200_000)?;
-    tick(alloc, &mut network, 300_000)?;
-    assert!(rt; word(&network, 2)? == AmfWord::Deregistered);
-    assert!(rt; network.view(&supi(3)?).is_none());
+// The links of what is sent where this is done.
+fn done(alloc: Global, network: &mut Network, act: &Act) -> Result<String, Fail> {
+    match act {
+        Act::First(link, text) => uplink(alloc, network, *link, true, text),
+        Act::Next(link, text) => uplink(alloc, network, *link, false, text),
+        Act::At(moment) => {
+            let delivery = network.tick(alloc, &RAND, Moment::at(*moment));
+            links(alloc, &delivery.ok().ok_or("memory")?)
+        }
+        Act::Lose(link) => {
+            network.drop_link(alloc, *link).ok().ok_or("memory")?;
+            Ok(String::new(alloc))
+        }
+    }
+}
+
+// Each act, with the links of what is sent.
+fn acts<R: Abort + AllocGlobal>(
+    rt: &R,
+    network: &mut Network,
+    table: &[(Act, &str)],
+) -> Result<(), Fail> {
+    for (act, wanted) in table {
+        let sent = done(rt.alloc(), network, act)?;
+        assert_eq!(rt; sent.as_str(), *wanted);
+    }
     Ok(())
+}
+
+#[test]
+fn fires_by_place(rt: HostRuntime) -> Result<(), Fail> {
+    let mut network = network_of_two(rt.alloc())?;
+    // The first subscriber's challenge is the second.
+    let table = [
+        (Act::First(7, REQUEST_OF_1), "7 "),
+        (Act::First(9, REQUEST_OF_2), "9 "),
+        (Act::At(5999), ""),
+        (Act::At(6000), "9 7 "),
+        (Act::At(6000), ""),
+    ];
+    acts(&rt, &mut network, &table)
+}
+
+#[test]
+fn fires_by_deadline(rt: HostRuntime) -> Result<(), Fail> {
+    let mut network = network_of_two(rt.alloc())?;
+    let table = [
+        (Act::First(7, REQUEST_OF_1), "7 "),
+        (Act::At(1), ""),
+        // An earlier moment is no way back.
+        (Act::At(0), ""),
+        (Act::First(9, REQUEST_OF_2), "9 "),
+        (Act::At(6000), "7 "),
+        (Act::At(6001), "9 "),
+        (Act::At(12_001), "7 9 "),
+        // The loss of a link ends what was begun on it, and nothing else.
+        (Act::Lose(7), ""),
+        (Act::At(100_000), "9 "),
+        // The fifth expiry ends the other challenge too.
+        (Act::At(200_000), "9 "),
+        (Act::At(300_000), ""),
+        (Act::At(400_000), ""),
+    ];
+    acts(&rt, &mut network, &table)?;
+    assert!(rt; word(&network, 1)? == AmfWord::Deregistered);
+    assert!(rt; word(&network, 2)? == AmfWord::Deregistered);
+    Ok(())
+}
+
+// The second subscriber's T3550 and the first one's T3560 have one deadline.
+#[test]
+fn fires_by_name(rt: HostRuntime) -> Result<(), Fail> {
+    let mut network = network_of_two(rt.alloc())?;
+    let table = [
+        (Act::First(1, REQUEST_OF_1), "1 "),
+        (
+            Act::Next(1, "7e00572d10f236a7417272bfb2d66d4d670733b527"),
+            "1 ",
+        ),
+        (
+            Act::Next(
+                1,
+                "7e0458610d7f0073bee7a178a934a656c1e78e712697feddf8de02046df4d0dcb35704d7",
+            ),
+            "1 ",
+        ),
+        (Act::First(2, REQUEST_OF_2), "2 "),
+        (Act::At(6000), "1 2 "),
+    ];
+    acts(&rt, &mut network, &table)
+}
+
+// The refusal of a command.
+fn refusal(alloc: Global, network: &mut Network, command: &NetCommand) -> Result<NetRefusal, Fail> {
+    match network.command(alloc, &RAND, command) {
+        Ok(_) => Err("no refusal".into()),
+        Err(refusal) => Ok(refusal),
+    }
 }
 
 #[test]
 fn refuses_commands(rt: HostRuntime) -> Result<(), Fail> {
     let alloc = rt.alloc();
     let mut network = network(alloc, 1, 0xffff_ffff_ffff)?;
-    let unknown = network.command(alloc, &RAND, &NetCommand::Deregister(supi(2)?));
-    assert!(rt; matches!(unknown, Err(NetRefusal::UnknownSupi)));
-    let unknown = network.command(alloc, &RAND, &NetCommand::Authenticate(supi(2)?));
-    assert!(rt; matches!(unknown, Err(NetRefusal::UnknownSupi)));
-    let early = network.command(alloc, &RAND, &NetCommand::Authenticate(supi(1)?));
+    let unknown = refusal(alloc, &mut network, &NetCommand::Deregister(supi(2)?))?;
+    assert!(rt; matches!(unknown, NetRefusal::UnknownSupi));
+    let unknown = refusal(alloc, &mut network, &NetCommand::Authenticate(supi(2)?))?;
+    assert!(rt; matches!(unknown, NetRefusal::UnknownSupi));
+    let early = refusal(alloc, &mut network, &NetCommand::Authenticate(supi(1)?))?;
     assert!(rt;
-        matches!(early, Err(NetRefusal::WrongState { state }) if state == AmfWord::Deregistered)
+        matches!(early, NetRefusal::WrongState { state } if state == AmfWord::Deregistered)
     );
     // No sequence number is left for a challenge.
     let sent = fresh(alloc, &mut network, 1, REQUEST_OF_1)?;
@@ -197,12 +284,24 @@ fn refuses_commands(rt: HostRuntime) -> Result<(), Fail> {
 }
 
 #[test]
-fn knows_its_configuration(rt: HostRuntime) -> Result<(), Fail> {
-    assert!(rt; pool_fits(&[255, 255, 255, 0], 256));
-    assert!(rt; !pool_fits(&[255, 255, 255, 1], 256));
-    assert!(rt; pool_fits(&[255, 255, 255, 255], 1));
-    assert!(rt; is_pool_size(1) && is_pool_size(65_536));
-    assert!(rt; !is_pool_size(0) && !is_pool_size(65_537));
+fn knows_its_pools(rt: HostRuntime) -> Result<(), Fail> {
+    let table = [
+        ([255, 255, 255, 0], 256, true),
+        ([255, 255, 255, 1], 256, false),
+        ([255, 255, 255, 255], 1, true),
+    ];
+    for (pool, size, fits) in &table {
+        assert!(rt; pool_fits(pool, *size) == *fits, "{size}");
+    }
+    let table = [(0, false), (1, true), (65_536, true), (65_537, false)];
+    for (size, fits) in &table {
+        assert!(rt; is_pool_size(*size) == *fits, "{size}");
+    }
+    Ok(())
+}
+
+#[test]
+fn knows_its_subscribers(rt: HostRuntime) -> Result<(), Fail> {
     assert!(rt; is_for_5g(&[0x80, 0]) && !is_for_5g(&[0x7f, 0xff]));
     let mut names = Vec::new(rt.alloc());
     for _ in 0..9 {
