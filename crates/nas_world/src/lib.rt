@@ -19,7 +19,7 @@ mod seen;
 mod sent;
 mod taken;
 #[cfg(test)]
-mod test_network;
+mod test_world;
 #[cfg(test)]
 mod tests;
 mod world;
