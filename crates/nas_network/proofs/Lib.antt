@@ -2,6 +2,7 @@ mod Beginnings
 mod Changed
 mod Due
 mod FirstOwners
+pub mod Growing
 mod Owners
 mod Running
 mod Supis

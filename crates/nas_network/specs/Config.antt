@@ -46,6 +46,10 @@ abbrev pub are_new : List SubscriberValues → List SubscriberValues → Bool
 are_new before [] = true
 are_new before (s ∷ ss) = not (is_subscriber s.supi before) && are_new (before ++ s ∷ []) ss
 
+-- up to 64 subscribers, no two with the same SUPI
+abbrev pub are_distinct : List SubscriberValues → Bool
+are_distinct ss = nat_le (length ss) 64 && are_new [] ss
+
 abbrev pub has_plmn : PlmnIdentity → SubscriberValues → Bool
 has_plmn plmn s = is_of_plmn plmn s.supi
 

@@ -1,13 +1,12 @@
 //! What a network is made with.
-ghost use Rattle.std.specs.Prelude.{◌≡◌, [], ◌∷◌, ◌++◌, OnOk, OnErr};
+ghost use Rattle.std.specs.Prelude.{◌≡◌};
 ghost use Rattle.milenage.specs.Checking.{is_for_5g};
 ghost use Rattle.nas_network.specs.Config.{dnns_from, is_pool_size, is_subscriber, pool_fits};
 
 use byteorder::{BigEndian, ByteOrder};
-use nas_base::{Memory, Plmn, Supi};
+use nas_base::{Plmn, Supi};
 use nas_elements::{Ambr, Dnn, Nssai, Timer3};
 use nas_timers::Durations;
-use std::alloc::Global;
 use std::marker::Model;
 
 /// 1 to 8 names of data networks.
@@ -69,64 +68,42 @@ impl Model for Subscriber {
     ghost invariant = { λ s. IsSubscriber s.field s.sqn };
 }
 
-/// Subscribers, in the order of the configuration.
+/// Up to 64 subscribers, in the order of the configuration, no two of which have one SUPI.
 #[derive(Drop)]
 pub struct Subscribers {
     pub items: Vec<Subscriber>,
 }
 
 impl Model for Subscribers {
-    ghost use Rattle.std.specs.Prelude.{List};
-    ghost use Rattle.nas_network.specs.Config.{SubscriberValues};
+    ghost use Rattle.std.specs.Prelude.{List, ◌≡◌, true};
+    ghost use Rattle.nas_network.specs.Config.{SubscriberValues, are_distinct};
 
     ghost Value = { List SubscriberValues };
 
     ghost view = { λ s. s.items.items };
+
+    ghost invariant = { λ s. are_distinct s.items.items ≡ true };
 }
 
 impl Subscribers {
-    /// No subscriber.
-    pub fn new(alloc: Global) -> Subscribers
-        ensures { result ≡ [] }
-    {
-        Subscribers {
-            items: Vec::new(alloc),
-        }
-    }
-
-    /// One more subscriber at the end.
-    ///
-    /// # Errors
-    ///
-    /// `Memory`; nothing then changes.
-    pub fn push(&mut self, _alloc: Global, subscriber: Subscriber) -> Result<(), Memory>
-        ensures ok { OnOk result (self.new ≡ self.old ++ subscriber ∷ []) }
-        ensures err { OnErr result (self.new ≡ self.old) }
-    {
-        match self.items.push(subscriber) {
-            Ok(()) => Ok(()),
-            Err(_) => Err(Memory),
-        }
-    }
-
-    /// Whether one of them has this SUPI.
-    pub fn contain(&self, supi: &Supi) -> bool
-        ensures { result ≡ is_subscriber supi.now self.now }
-    {
-        for subscriber in &self.items {
-            if subscriber.supi == *supi {
-                return true;
-            }
-        }
-        false
-    }
-
     /// The subscribers in order.
     pub fn as_slice(&self) -> &[Subscriber]
         ensures { result.now ≡ self.now }
     {
         self.items.as_slice()
     }
+}
+
+/// Whether one of the subscribers has this SUPI.
+pub fn is_subscriber(supi: &Supi, subscribers: &[Subscriber]) -> bool
+    ensures { result ≡ is_subscriber supi.now subscribers.now }
+{
+    for subscriber in subscribers {
+        if subscriber.supi == *supi {
+            return true;
+        }
+    }
+    false
 }
 
 /// A network: its identity, its region, set and pointer as 5G-GUTIs have them, the 5G-TMSI that is assigned first, 1 at least, the

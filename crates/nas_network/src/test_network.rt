@@ -88,9 +88,9 @@ pub fn network(alloc: Global, last: u8, sqn: u64) -> Result<Network, Fail>
     if !first.supi.is_of(&plmn) {
         return Err("another network".into());
     }
-    let mut subscribers = Subscribers::new(alloc);
-    subscribers.push(alloc, first).ok().ok_or("memory")?;
-    let config = config(plmn, [10, 45, 0, 2], subscribers)?;
+    let mut items = Vec::new(alloc);
+    items.push(first)?;
+    let config = config(plmn, [10, 45, 0, 2], Subscribers { items })?;
     Ok(Network::new(alloc, &config).ok().ok_or("memory")?)
 }
 
@@ -102,12 +102,12 @@ pub fn network_of_two(alloc: Global) -> Result<Network, Fail> {
     if !first.supi.is_of(&plmn) || !second.supi.is_of(&plmn) {
         return Err("another network".into());
     }
-    let mut subscribers = Subscribers::new(alloc);
-    subscribers.push(alloc, first).ok().ok_or("memory")?;
-    if subscribers.contain(&second.supi) {
+    if first.supi == second.supi {
         return Err("twice".into());
     }
-    subscribers.push(alloc, second).ok().ok_or("memory")?;
-    let config = config(plmn, [10, 45, 0, 2], subscribers)?;
+    let mut items = Vec::new(alloc);
+    items.push(first)?;
+    items.push(second)?;
+    let config = config(plmn, [10, 45, 0, 2], Subscribers { items })?;
     Ok(Network::new(alloc, &config).ok().ok_or("memory")?)
 }

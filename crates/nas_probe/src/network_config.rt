@@ -1,5 +1,5 @@
 //! The network of a call, and its subscribers; network_calls lists their words.
-ghost use Rattle.std.specs.Prelude.{◌≡◌, ◌≤◌, ◌==◌, ◌||◌, true, false, IfOk};
+ghost use Rattle.std.specs.Prelude.{◌≡◌, ◌≤◌, ◌==◌, ◌||◌, [], ◌∷◌, ◌++◌, true, false, IfOk, OnOk};
 ghost use Rattle.milenage.specs.Checking.{is_for_5g};
 ghost use Rattle.milenage.specs.Home.{is_sqn};
 ghost use Rattle.nas_base.specs.Supi.{is_of_plmn};
@@ -10,7 +10,9 @@ use crate::handset_calls::sequence_number;
 use crate::words::{Refusal, block, exactly, network, octet, octets, quantity, subscriber};
 use nas_base::{Moment, Plmn, Supi};
 use nas_elements::{Ambr, Dnn, Nssai, Timer3};
-use nas_network::{Dnns, NetConfig, Subscriber, Subscribers, is_for_5g, is_pool_size, pool_fits};
+use nas_network::{
+    Dnns, NetConfig, Subscriber, Subscribers, is_for_5g, is_pool_size, is_subscriber, pool_fits,
+};
 use nas_timers::Durations;
 use std::alloc::Global;
 
@@ -113,19 +115,29 @@ fn read_subscribers(alloc: Global, plmn: &Plmn, words: &[&str]) -> Result<Subscr
     if words.is_empty() || words.len() > 64 {
         return Err(Refusal::Unreadable);
     }
-    let mut subscribers = Subscribers::new(alloc);
+    let mut items = Vec::new(alloc);
     for word in words {
-        let subscriber = read_subscriber(alloc, plmn, &subscribers, word)?;
-        subscribers.push(alloc, subscriber)?;
+        let subscriber = read_subscriber(alloc, plmn, items.as_slice(), word)?;
+        push(&mut items, subscriber)?;
     }
-    Ok(subscribers)
+    Ok(Subscribers { items })
+}
+
+// One more subscriber at the end.
+fn push(items: &mut Vec<Subscriber>, subscriber: Subscriber) -> Result<(), Refusal>
+    ensures { OnOk result (items.new.items ≡ items.old.items ++ subscriber ∷ []) }
+{
+    match items.push(subscriber) {
+        Ok(()) => Ok(()),
+        Err(_) => Err(Refusal::Memory),
+    }
 }
 
 // A subscriber whose SUPI none before has.
 fn read_subscriber(
     alloc: Global,
     plmn: &Plmn,
-    before: &Subscribers,
+    before: &[Subscriber],
     word: &str,
 ) -> Result<Subscriber, Refusal>
     ensures network { IfOk result (λ subscriber. is_of_plmn plmn.now subscriber.supi ≡ true) }
@@ -147,12 +159,12 @@ fn read_subscriber(
     })
 }
 
-fn new_supi(plmn: &Plmn, before: &Subscribers, word: &str) -> Result<Supi, Refusal>
+fn new_supi(plmn: &Plmn, before: &[Subscriber], word: &str) -> Result<Supi, Refusal>
     ensures network { IfOk result (λ supi. is_of_plmn plmn.now supi ≡ true) }
     ensures fresh { IfOk result (λ supi. is_subscriber supi before.now ≡ false) }
 {
     let supi = subscriber(word)?;
-    if !supi.is_of(plmn) || before.contain(&supi) {
+    if !supi.is_of(plmn) || is_subscriber(&supi, before) {
         return Err(Refusal::Unreadable);
     }
     Ok(supi)

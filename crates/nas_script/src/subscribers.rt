@@ -1,5 +1,5 @@
 //! The tables of the subscribers.
-ghost use Rattle.std.specs.Prelude.{◌≡◌, ◌≤◌, [], true, false, length, map, IfOk, IfSome};
+ghost use Rattle.std.specs.Prelude.{◌≡◌, ◌≤◌, [], ◌∷◌, ◌++◌, true, false, length, map, IfOk, IfSome, OnOk};
 ghost use Rattle.nas_base.specs.Supi.{is_of_plmn};
 ghost use Rattle.toml.specs.View.{view};
 ghost use Rattle.nas_network.specs.Config.{are_subscribers, is_subscriber};
@@ -11,8 +11,8 @@ use crate::fields::{field_of, octets_of, sqn_of, supi_of};
 use crate::names::names_of;
 use crate::slices::slices_of;
 use crate::{ConfigRefusal, Key};
-use nas_base::{Plmn, Supi};
-use nas_network::{Subscriber, Subscribers};
+use nas_base::{Memory, Plmn, Supi};
+use nas_network::{Subscriber, Subscribers, is_subscriber};
 use std::alloc::Global;
 use toml::Value;
 
@@ -27,12 +27,22 @@ pub fn read_subscribers(
     ensures value { Reads (λ subscribers. subscribers) result (subscribers_in plmn.now [] (map view tables.now)) }
     ensures fact { IfOk result (λ subscribers. are_subscribers plmn.now subscribers ≡ true) }
 {
-    let mut subscribers = Subscribers::new(alloc);
+    let mut items = Vec::new(alloc);
     for table in tables {
-        let subscriber = read_subscriber(alloc, plmn, &subscribers, table)?;
-        subscribers.push(alloc, subscriber)?;
+        let subscriber = read_subscriber(alloc, plmn, items.as_slice(), table)?;
+        push(&mut items, subscriber)?;
     }
-    Ok(subscribers)
+    Ok(Subscribers { items })
+}
+
+// One more subscriber at the end.
+fn push(items: &mut Vec<Subscriber>, subscriber: Subscriber) -> Result<(), Memory>
+    ensures { OnOk result (items.new.items ≡ items.old.items ++ subscriber ∷ []) }
+{
+    match items.push(subscriber) {
+        Ok(()) => Ok(()),
+        Err(_) => Err(Memory),
+    }
 }
 
 // The subscriber of a table, whose SUPI none of the subscribers before has.
@@ -40,7 +50,7 @@ pub fn read_subscribers(
 fn read_subscriber(
     alloc: Global,
     plmn: &Plmn,
-    before: &Subscribers,
+    before: &[Subscriber],
     table: &Value,
 ) -> Result<Subscriber, ConfigRefusal>
     ensures value { Reads (λ s. s) result (subscriber_in plmn.now before.now (view table.now)) }
@@ -66,12 +76,12 @@ fn read_subscriber(
 
 // The SUPI of a table, which none of the subscribers before has.
 #[tactic(auto, unfolding(crate::specs::Subscribers::new_supi_at))]
-fn new_supi_of(plmn: &Plmn, before: &Subscribers, table: &Value) -> Option<Supi>
+fn new_supi_of(plmn: &Plmn, before: &[Subscriber], table: &Value) -> Option<Supi>
     ensures value { result ≡ new_supi_at plmn.now before.now (view table.now) }
     ensures fact { IfSome result (λ supi. (is_of_plmn plmn.now supi ≡ true) × (is_subscriber supi before.now ≡ false)) }
 {
     let supi = supi_of(plmn, table)?;
-    if before.contain(&supi) {
+    if is_subscriber(&supi, before) {
         None
     } else {
         Some(supi)

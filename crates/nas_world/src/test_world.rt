@@ -102,9 +102,9 @@ fn network_config(alloc: Global, sqn: u64) -> Result<NetConfig, Fail>
     if !first.supi.is_of(&plmn) {
         return Err("another network".into());
     }
-    let mut subscribers = Subscribers::new(alloc);
-    subscribers.push(alloc, first).ok().ok_or("memory")?;
-    net_config(plmn, [10, 45, 0, 2], subscribers)
+    let mut items = Vec::new(alloc);
+    items.push(first)?;
+    net_config(plmn, [10, 45, 0, 2], Subscribers { items })
 }
 
 fn handset_config(sqn: u64) -> Result<HandsetConfig, Fail>

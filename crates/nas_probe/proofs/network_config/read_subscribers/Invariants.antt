@@ -6,7 +6,7 @@ use Rattle.nas_probe.proofs.network_config.read_subscribers.Given as goal
 -- the subscribers so far
 abbrev pub invariant-loop-word : goal.invariant-loop-word
 invariant-loop-word l = record {
-  count : length l.subscribers ≡ l.word-index;
-  network : list_all (has_plmn l.plmn) l.subscribers ≡ true;
-  distinct : are_new [] l.subscribers ≡ true;
+  count : length l.items.items ≡ l.word-index;
+  network : list_all (has_plmn l.plmn) l.items.items ≡ true;
+  distinct : are_new [] l.items.items ≡ true;
 }

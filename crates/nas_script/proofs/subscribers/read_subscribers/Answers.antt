@@ -4,24 +4,25 @@ use Rattle.std.proofs.lemmas.List.{drop_more, length-append}
 use Rattle.toml.specs.View.{view}
 use Rattle.toml.specs.declared.value.Value.{Value}
 use Rattle.nas_script.specs.Subscribers.{subscribers_in}
-use Rattle.nas_script.proofs.ConfigLaws.{are_new-push, network-push, subscribers_in-more}
+use Rattle.nas_network.proofs.Growing.{are_new-push, network-push}
+use Rattle.nas_script.proofs.ConfigLaws.{subscribers_in-more}
 use Rattle.nas_script.proofs.subscribers.read_subscribers.Goals as goal
 
 pub loop-table-preserved : goal.loop-table-preserved
 loop-table-preserved c =
     let one = c.in_ok-subscriber.subscriber in
     let fact = c.in_ok-subscriber.ensures.fact in
-    let pushed = c.in_ok-push.ensures.ok in
+    let pushed = c.in_ok-push.ensures in
     let front : drop c.loop-table.table-index c.args.tables.now ≡ c.table-item.result ∷ drop (c.loop-table.table-index + 1) c.args.tables.now =
     drop_more c.args.tables.now c.loop-table.table-index c.table-item.result c.loop-table-test.true
     ∙ ap (λ (v : Value). v ∷ drop (c.loop-table.table-index + 1) c.args.tables.now) (sym c.table-item.is) in
     record {
-      count = rw (pushed, length-append c.loop-table.subscribers (one ∷ []), c.loop-table.invariant.count) refl;
-      network = rw pushed (network-push c.args.plmn.now c.loop-table.subscribers one c.loop-table.invariant.network fact.0);
-      distinct = rw pushed (are_new-push [] c.loop-table.subscribers one c.loop-table.invariant.distinct fact.1);
+      count = rw (pushed, length-append c.loop-table.items.items (one ∷ []), c.loop-table.invariant.count) refl;
+      network = rw pushed (network-push c.args.plmn.now c.loop-table.items.items one c.loop-table.invariant.network fact.0);
+      distinct = rw pushed (are_new-push [] c.loop-table.items.items one c.loop-table.invariant.distinct fact.1);
       told =
           rw pushed
-          (subscribers_in-more c.args.plmn.now c.loop-table.subscribers (view c.table-item.result) (map view (drop (c.loop-table.table-index + 1) c.args.tables.now)) one c.in_ok-subscriber.ensures.value
-          ∙ ap (λ (vs : List Value). subscribers_in c.args.plmn.now c.loop-table.subscribers (map view vs)) (sym front)
+          (subscribers_in-more c.args.plmn.now c.loop-table.items.items (view c.table-item.result) (map view (drop (c.loop-table.table-index + 1) c.args.tables.now)) one c.in_ok-subscriber.ensures.value
+          ∙ ap (λ (vs : List Value). subscribers_in c.args.plmn.now c.loop-table.items.items (map view vs)) (sym front)
           ∙ c.loop-table.invariant.told);
     }
