@@ -1,12 +1,10 @@
 -- Sequence numbers have 48 bits.
-use Rattle.std.proofs.Common.{◌≡◌, ◌<◌, ◌^◌, ◌+◌, ℕ, Bool, true, false, nat_lt, List, Option, Some, None, Result, Ok, Err, arith, refl}
+use Rattle.std.proofs.Common.{◌≡◌, ◌+◌, ℕ, Bool, true, false, nat_lt, List, Option, Some, None, Ok, Err, arith, refl}
 use Rattle.std.proofs.lemmas.Bool.Decides.{nat_tests}
 use Rattle.nas_base.specs.Branches.{chosen, per, when◌then◌else◌}
 use Rattle.milenage.specs.Autn.{vector}
 use Rattle.milenage.specs.Home.{HomeRecord, challenge_of, home_record, last_sqn}
-use Rattle.milenage.specs.declared.home.HomeRefusal.{HomeRefusal}
 use Rattle.milenage.specs.declared.home.HomeRefusal.TheVariants as refusals
-use Rattle.milenage.specs.declared.vector.Vector.{Vector}
 use Rattle.amf_core.specs.Challenges.{VectorFits}
 
 -- the answer of a record

@@ -1,5 +1,5 @@
 -- The answers to AUTHENTICATION REQUEST (TS 24.501 clauses 5.4.1.3.4 to 5.4.1.3.7).
-use Rattle.std.specs.Prelude.{ℕ, Bool, true, false, ◌==◌, ◌||◌, List, Option, Some, None, Result, Ok, Err}
+use Rattle.std.specs.Prelude.{ℕ, Bool, false, ◌==◌, ◌||◌, List, Option, Some, None}
 use Rattle.std.specs.Str.{bytes_eq}
 use Rattle.nas_base.specs.Branches.{per, when◌then◌else◌}
 use Rattle.key_chain.specs.Keys.{nas_keys}

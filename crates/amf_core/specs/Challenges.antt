@@ -1,11 +1,10 @@
 -- Challenges: how one starts, what is sent of it, and how a procedure ends (TS 24.501 clauses 5.4.1.3 and 5.4.2, TS 33.501 clause 6.1.3.2).
-use Rattle.std.specs.Prelude.{ℕ, ◌<◌, ◌^◌, Bool, true, false, not, ◌==◌, ◌&&◌, ◌||◌, List, [], ◌∷◌, take, Option, Some, None, Result, Ok, Err, if◌then◌else◌}
-use Rattle.nas_base.specs.Branches.{per, when◌then◌else◌}
+use Rattle.std.specs.Prelude.{ℕ, ◌<◌, ◌^◌, Bool, false, not, ◌==◌, ◌&&◌, ◌||◌, List, [], ◌∷◌, take, Option, Some, None, Result, Ok, Err, if◌then◌else◌}
+use Rattle.nas_base.specs.Branches.{per}
 use Rattle.key_chain.specs.Keys.{kamf, kausf, kseaf, res_star}
 use Rattle.milenage.specs.Home.{challenge_of, challenged}
 use Rattle.milenage.specs.declared.home.HomeRefusal.{HomeRefusal}
 use Rattle.milenage.specs.declared.vector.Vector.{Vector}
-use Rattle.nas_elements.specs.Algs.{Algorithms}
 use Rattle.nas_elements.specs.Capability.{has_ea}
 use Rattle.nas_elements.specs.declared.asi.Asi.{Asi}
 use Rattle.nas_timers.specs.declared.timer_id.TimerId.TheVariants.{T3522, T3550, T3560}

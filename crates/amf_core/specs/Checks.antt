@@ -1,11 +1,10 @@
 -- Octets that pass the check of a context, and what an AMF notes of it (TS 24.501 clause 4.4.3.3).
-use Rattle.std.specs.Prelude.{ℕ, ◌+◌, Bool, true, false, ◌==◌, List, Option, Some, None}
-use Rattle.nas_base.specs.Branches.{per, when◌then◌else◌}
+use Rattle.std.specs.Prelude.{ℕ, ◌+◌, true, false, List, Option, Some, None}
+use Rattle.nas_base.specs.Branches.{per}
 use Rattle.nas_base.specs.declared.count.Dir.TheVariants.{Up}
 use Rattle.nas_security.specs.Contexts.{SecurityContext}
 use Rattle.nas_security.specs.Counts.{with_next}
 use Rattle.nas_security.specs.Passing.{judged}
-use Rattle.nas_security.specs.declared.challenges.Challenge.{Challenge}
 use Rattle.nas_security.specs.declared.verdicts.Verdict.{Verdict}
 use Rattle.nas_security.specs.declared.verdicts.Verdict.TheVariants as verdicts
 use Rattle.amf_core.specs.SecurityMode.{commanding_on}

@@ -1,5 +1,5 @@
 -- The commands that an AMF is given.
-use Rattle.std.specs.Prelude.{ℕ, Bool, true, false, ◌&&◌, List, Option, None, Result, Ok, Err}
+use Rattle.std.specs.Prelude.{ℕ, Bool, true, false, ◌&&◌, List, None, Result, Ok, Err}
 use Rattle.nas_base.specs.Branches.{per, when◌then◌else◌}
 use Rattle.nas_base.specs.declared.state_words.AmfWord.{AmfWord}
 use Rattle.nas_base.specs.declared.state_words.AmfWord.TheVariants as words

@@ -1,5 +1,5 @@
 -- What a step leaves: what was kept before it stays as it is until the step is done, and beside it stands what the step changed.
-use Rattle.std.specs.Prelude.{ℕ, ◌+◌, List, [], ◌∷◌, Option, Some, None, Result, Ok, Err, Bool, true, false, ◌≡◌}
+use Rattle.std.specs.Prelude.{ℕ, ◌+◌, List, ◌∷◌, Some, Result, Ok, Err, Bool, true, false, ◌≡◌}
 use Rattle.milenage.specs.Home.{HomeRecord, resync_of, resynced}
 use Rattle.amf_core.specs.Changes.{changed, home_now}
 use Rattle.amf_core.specs.State.{AmfState}

@@ -1,18 +1,16 @@
 -- Timers that expire, what the SMF wants, and links that are lost.
-use Rattle.std.specs.Prelude.{ℕ, ◌+◌, Bool, true, false, nat_lt, List, Option, Some, None}
+use Rattle.std.specs.Prelude.{ℕ, ◌+◌, Bool, false, nat_lt, List, Option, None}
 use Rattle.nas_base.specs.Branches.{per, when◌then◌else◌}
 use Rattle.nas_timers.specs.declared.timer_id.TimerId.{TimerId}
 use Rattle.nas_timers.specs.declared.timer_id.TimerId.TheVariants.{T3510, T3516, T3517, T3521, T3522, T3550, T3560, T3580, T3581, T3582, T3591, T3592}
 use Rattle.amf_core.specs.Challenges.{challenge, challenge_open, challenge_put, ended, idle}
 use Rattle.amf_core.specs.Commands.{is_idle}
-use Rattle.amf_core.specs.declared.config.Configured.{Configured}
-use Rattle.amf_core.specs.Deregistration.{deregistered, deregistration_put, unregistered}
+use Rattle.amf_core.specs.Deregistration.{deregistration_put, unregistered}
 use Rattle.amf_core.specs.Registration.{acceptance, is_on}
 use Rattle.amf_core.specs.State.{unused}
 use Rattle.amf_core.specs.Transport.{brought_down}
 use Rattle.amf_core.specs.Work.{ask, config_of, link_of, put, put_link, say_on, start, subscriber}
 use Rattle.amf_core.specs.declared.acts.Protection.TheVariants.{Ciphered}
-use Rattle.amf_core.specs.declared.link.Link.{Link}
 use Rattle.amf_core.specs.declared.outs.SmfAsk.TheVariants.{ReleaseAll}
 use Rattle.amf_core.specs.declared.procedures.Accepting.{Accepting}
 use Rattle.amf_core.specs.declared.procedures.Challenging.{Challenging}

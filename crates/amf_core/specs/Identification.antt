@@ -1,5 +1,5 @@
 -- IDENTITY RESPONSE (TS 24.501 clause 5.4.3).
-use Rattle.std.specs.Prelude.{ℕ, Option, None}
+use Rattle.std.specs.Prelude.{ℕ, None}
 use Rattle.nas_base.specs.Branches.{per}
 use Rattle.nas_elements.specs.Suci.{SuciParts}
 use Rattle.nas_elements.specs.declared.identity.Identity.{Identity}

@@ -1,5 +1,5 @@
 -- Whom an identity names (TS 24.501 clause 9.11.3.4).
-use Rattle.std.specs.Prelude.{ℕ, Bool, true, false, not, ◌==◌, ◌&&◌, ◌||◌, List, [], ◌∷◌, ◌++◌, Option, Some, None, if◌then◌else◌}
+use Rattle.std.specs.Prelude.{ℕ, Bool, true, false, not, ◌==◌, ◌&&◌, List, [], ◌∷◌, ◌++◌, Option, None, if◌then◌else◌}
 use Rattle.std.specs.Str.{bytes_eq}
 use Rattle.nas_base.specs.Plmn.{PlmnIdentity, plmn_digits}
 use Rattle.nas_elements.specs.Suci.{SuciParts}

@@ -1,5 +1,5 @@
 -- REGISTRATION REQUESTs that are kept, and when two of them are equal (TS 24.501 clause 5.5.1.2.8, cases c and d).
-use Rattle.std.specs.Prelude.{ℕ, Bool, true, false, ◌==◌, ◌&&◌, List, Option, Some, None}
+use Rattle.std.specs.Prelude.{Bool, true, false, ◌==◌, ◌&&◌, List, Option, Some, None}
 use Rattle.std.specs.Str.{bytes_eq}
 use Rattle.nas_elements.specs.Suci.{SuciParts}
 use Rattle.std.specs.Cmp.Lexicographic.{pointwise}

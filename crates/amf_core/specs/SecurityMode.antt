@@ -1,5 +1,5 @@
 -- The answers to SECURITY MODE COMMAND (TS 24.501 clauses 5.4.2.4 and 5.4.2.5).
-use Rattle.std.specs.Prelude.{ℕ, Bool, true, false, List, Option, Some, None, Result, Ok, Err}
+use Rattle.std.specs.Prelude.{ℕ, Bool, List, Option, Some, None, Result, Ok}
 use Rattle.std.specs.Str.{bytes_eq}
 use Rattle.nas_base.specs.Branches.{per, when◌then◌else◌}
 use Rattle.nas_elements.specs.declared.guti.Guti.{Guti}
@@ -12,7 +12,7 @@ use Rattle.mm_messages.specs.declared.message.Mm.TheVariants.{RegistrationReques
 use Rattle.mm_messages.specs.declared.message.MmRefusal.{MmRefusal}
 use Rattle.mm_messages.specs.declared.registration.RegistrationType.{RegistrationType}
 use Rattle.amf_core.specs.Acceptance.{registration_goes_on}
-use Rattle.amf_core.specs.Challenges.{ended, idle, stopped}
+use Rattle.amf_core.specs.Challenges.{ended, stopped}
 use Rattle.amf_core.specs.Naming.{suci_digits}
 use Rattle.amf_core.specs.Registration.{is_on}
 use Rattle.amf_core.specs.Work.{ask, put}
@@ -25,7 +25,6 @@ use Rattle.amf_core.specs.declared.procedures.Procedure.{Procedure}
 use Rattle.amf_core.specs.declared.procedures.Procedure.TheVariants as procedures
 use Rattle.amf_core.specs.declared.procedures.Purpose.{Purpose}
 use Rattle.amf_core.specs.declared.procedures.Purpose.TheVariants.{Registration, Command}
-use Rattle.amf_core.specs.declared.requests.Request.{Request}
 use Rattle.amf_core.specs.declared.security_mode.Commanding.{Commanding}
 use Rattle.amf_core.specs.declared.subscriber.Subscriber.{Subscriber}
 use Rattle.amf_core.specs.declared.work.Work.{Work}

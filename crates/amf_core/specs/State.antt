@@ -1,5 +1,5 @@
 -- What an AMF keeps between two events (TS 24.501 clause 5.1.3.2.3).
-use Rattle.std.specs.Prelude.{ℕ, zero, suc, ◌+◌, ◌==◌, Bool, true, false, List, [], ◌∷◌, map, Option, Some, None, option_map, if◌then◌else◌}
+use Rattle.std.specs.Prelude.{ℕ, zero, suc, ◌+◌, ◌==◌, Bool, true, false, List, [], ◌∷◌, map, Option, Some, None, option_map}
 use Rattle.std.specs.Str.{bytes_eq}
 use Rattle.nas_base.specs.Branches.{per}
 use Rattle.nas_base.specs.declared.state_words.AmfWord.{AmfWord}

@@ -1,5 +1,5 @@
 -- A step while it goes on: the moment and the random octets that it was given, what is kept, and what was said so far.
-use Rattle.std.specs.Prelude.{ℕ, Bool, true, false, ◌==◌, List, [], ◌∷◌, ◌++◌, Option, Some, None}
+use Rattle.std.specs.Prelude.{ℕ, List, [], ◌∷◌, ◌++◌, Option, None}
 use Rattle.nas_base.specs.Branches.{per, when◌then◌else◌}
 use Rattle.nas_timers.specs.Durations.{deadline_after, duration_of}
 use Rattle.nas_timers.specs.declared.timer_id.TimerId.{TimerId}

@@ -6,7 +6,7 @@ use crate::{
     Amf, AmfConfig, AmfInput, AmfOut, AmfOuts, AmfRefusal, AmfSubscriber, AmfSubscribers, step,
 };
 use key_chain::{kamf, kausf, kseaf, nas_keys, res_star};
-use milenage::{Home, HomeList, HomeSubscriber, f2345};
+use milenage::{Home, HomeEntry, HomeList, f2345};
 use nas_base::{AmfWord, Dir, Ksi, Moment, Octets, Plmn, Supi, Writer};
 use nas_elements::{Algs, Nssai, Slice, Timer3};
 use nas_security::{Challenge, Context, Verdict, protect, unprotect};
@@ -75,7 +75,7 @@ fn amf(alloc: Global) -> Result<Amf, Fail> {
 // The home network of the same subscriber.
 fn home(alloc: Global) -> Result<Home, Fail> {
     let mut list = HomeList::new(alloc);
-    let subscriber = HomeSubscriber {
+    let subscriber = HomeEntry {
         supi: supi()?,
         k: K,
         opc: OPC,

@@ -1,13 +1,13 @@
 -- The moves of answers to challenges, of service requests and of transports, of one subscriber.
 use Rattle.std.proofs.Common.{◌≡◌, refl, sym, ap, subst, ◌∙◌, ◌==◌, ◌||◌, ℕ, Bool, true, false, List, Option, Some, None}
-use Rattle.milenage.specs.Home.{resync_of, resynced}
+use Rattle.milenage.specs.Home.{resync_of}
 use Rattle.nas_elements.specs.declared.slice.Slice.{Slice}
 use Rattle.nas_security.specs.Contexts.{SecurityContext}
 use Rattle.nas_security.specs.declared.challenges.Challenge.{Challenge}
-use Rattle.amf_core.specs.Authentication.{answered, asking_in, asking_on, authentication_failed, authentication_rejected, commanding, failed_by, is_expected, mode_commanded, next_link, responded, resynchronised}
+use Rattle.amf_core.specs.Authentication.{answered, asking_in, asking_on, authentication_failed, authentication_rejected, commanding, failed_by, is_expected, next_link, responded, resynchronised}
 use Rattle.amf_core.specs.Challenges.{challenge_open, ended}
 use Rattle.amf_core.specs.Drafts.{is_right}
-use Rattle.amf_core.specs.SecurityMode.{commanding_of, commanding_on, completed, goes_on, in_use, mode_completed, mode_rejected, switched, whole_in}
+use Rattle.amf_core.specs.SecurityMode.{commanding_of, commanding_on, goes_on, in_use, mode_completed, mode_rejected, switched, whole_in}
 use Rattle.amf_core.specs.Service.{service_requested}
 use Rattle.amf_core.specs.Transport.{brought_down, session_of, transported}
 use Rattle.amf_core.specs.Registration.{is_on}
@@ -29,8 +29,8 @@ use Rattle.amf_core.specs.declared.work.Work.{Work}
 use Rattle.amf_laws.proofs.Branching.{per_holds, when_holds}
 use Rattle.amf_laws.proofs.ChallengeRows.{MayRefuse, challenge_put_moves, challenge_runs, challenge_settles, ended_moves, say_on_moves, stopped_moves}
 use Rattle.amf_laws.proofs.LinkRecords.{same_number}
-use Rattle.amf_laws.proofs.Moves.{Beginning, MayLink, MayProtect, Own, by_link_may, links_now, own_protection_may, Moves, Settled, settled, told_as}
-use Rattle.amf_laws.proofs.Moves.Moves.{here, said, asked, starts, stops, puts, links, homes, numbers}
+use Rattle.amf_laws.proofs.Moves.{Beginning, MayLink, Own, by_link_may, links_now, Moves, Settled, settled, told_as}
+use Rattle.amf_laws.proofs.Moves.Moves.{said, asked, puts, homes}
 use Rattle.amf_laws.proofs.RegistrationRows.{goes_on_settles}
 use Rattle.amf_laws.specs.Timers.{Running, none_runs, running_in}
 

@@ -1,12 +1,10 @@
 -- The rows that octets come to, one behind the other, each with the subscriber that it has.
-use Rattle.std.proofs.Common.{◌≡◌, refl, sym, ap, subst, ◌∙◌, ◌⊎◌, ℕ, Bool, true, List, Option, Some, None}
-use Rattle.std.specs.Prelude.{is_some}
-use Rattle.nas_elements.specs.Suci.{SuciParts}
+use Rattle.std.proofs.Common.{◌≡◌, sym, subst, ◌⊎◌, ℕ, List, Option, Some, None}
 use Rattle.nas_elements.specs.declared.guti.Guti.{Guti}
 use Rattle.mm_messages.specs.declared.message.Mm.{Mm}
 use Rattle.amf_core.specs.Checks.{Passage, checked_in_use, checked_pending, noted}
 use Rattle.amf_core.specs.Drafts.{by_now}
-use Rattle.amf_core.specs.Naming.{keeper, keeps_guti, keeps_stmsi, named_by_suci, short_keeper, suci_digits}
+use Rattle.amf_core.specs.Naming.{keeper, keeps_guti, keeps_stmsi, short_keeper}
 use Rattle.nas_elements.specs.declared.guti.Stmsi.{Stmsi}
 use Rattle.amf_core.specs.State.{has_supi, subscriber_in}
 use Rattle.amf_core.specs.Work.{link_of, put_link, say, subscriber, subscriber_of_link}

@@ -1,14 +1,14 @@
 -- The moves of challenges, and of procedures that end.
-use Rattle.std.proofs.Common.{◌≡◌, refl, sym, ap, subst, ◌∙◌, ℕ, Bool, true, false, List, Option, Some, None, Result, Ok, Err}
+use Rattle.std.proofs.Common.{◌≡◌, refl, sym, ap, subst, ℕ, true, List, Option, Some, Result, Ok, Err}
 use Rattle.nas_timers.specs.declared.timer_id.TimerId.TheVariants.{T3522, T3550, T3560}
 use Rattle.milenage.specs.Home.{challenge_of, challenged}
 use Rattle.milenage.specs.declared.home.HomeRefusal.{HomeRefusal}
 use Rattle.milenage.specs.declared.vector.Vector.{Vector}
 use Rattle.mm_messages.specs.declared.message.Mm.{Mm}
 use Rattle.amf_core.specs.Answers.{AuthenticationValues}
-use Rattle.amf_core.specs.Challenges.{authentication, begun_with, by_vector, challenge, challenge_begun, challenge_next, challenge_open, challenge_put, challenge_refused, challenge_sent, claimed, ended, idle, phase_sent, stopped, stopped_of, told}
+use Rattle.amf_core.specs.Challenges.{authentication, by_vector, challenge, challenge_begun, challenge_next, challenge_open, challenge_put, challenge_refused, challenge_sent, claimed, ended, idle, phase_sent, stopped, stopped_of, told}
 use Rattle.amf_core.specs.Drafts.{by_now}
-use Rattle.amf_core.specs.Work.{config_of, home_of, link_of, put, reject, say_on}
+use Rattle.amf_core.specs.Work.{config_of, home_of, link_of, put, say_on}
 use Rattle.amf_core.specs.declared.acts.Protection.{Protection}
 use Rattle.amf_core.specs.declared.acts.Protection.TheVariants.{IntegrityProtectedWithNewContext}
 use Rattle.amf_core.specs.declared.draft.Draft.{Draft}
@@ -22,9 +22,9 @@ use Rattle.amf_core.specs.declared.procedures.Purpose.{Purpose}
 use Rattle.amf_core.specs.declared.procedures.Purpose.TheVariants.{Registration, Command}
 use Rattle.amf_core.specs.declared.subscriber.Subscriber.{Subscriber}
 use Rattle.amf_core.specs.declared.work.Work.{Work}
-use Rattle.amf_laws.proofs.Branching.{per_holds, when_holds}
+use Rattle.amf_laws.proofs.Branching.{per_holds}
 use Rattle.amf_laws.proofs.Moves.{Beginning, MayLink, MayProtect, Own, by_link_may, links_now, own_protection_may, Moves, Settled, settled}
-use Rattle.amf_laws.proofs.Moves.Moves.{here, said, asked, starts, stops, puts, links, homes, numbers}
+use Rattle.amf_laws.proofs.Moves.Moves.{said, starts, stops, puts, links, homes}
 use Rattle.amf_laws.specs.Timers.{Running, none_runs, running_in, with_timer}
 
 -- the timer of a challenge

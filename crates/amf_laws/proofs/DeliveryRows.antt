@@ -1,6 +1,6 @@
 -- The rows that octets come to.
-use Rattle.std.proofs.Common.{◌≡◌, refl, sym, ap, subst, ◌∙◌, ◌==◌, ◌||◌, ◌&&◌, inl, inr, ℕ, Bool, true, false, not, List, drop, length, nat_lt, Option, Some, None, Result, Ok, Err, slice_index_or}
-use Rattle.nas_base.specs.Branches.{per, when◌then◌else◌}
+use Rattle.std.proofs.Common.{◌≡◌, refl, sym, ap, subst, ◌∙◌, ◌==◌, ◌||◌, inl, inr, ℕ, Bool, true, not, List, drop, length, nat_lt, Option, Some, None, Result, Ok, Err}
+use Rattle.nas_base.specs.Branches.{per}
 use Rattle.nas_elements.specs.Suci.{SuciParts}
 use Rattle.nas_elements.specs.declared.identity.Identity.{Identity}
 use Rattle.nas_elements.specs.declared.identity.Identity.TheVariants as identities
@@ -16,25 +16,25 @@ use Rattle.mm_messages.specs.declared.message.MmRefusal.TheVariants as refusals
 use Rattle.mm_messages.specs.declared.registration.RegistrationType.{RegistrationType}
 use Rattle.amf_core.specs.Authentication.{authentication_failed, responded}
 use Rattle.amf_core.specs.Checks.{Passage, checked_in_use, checked_pending, noted}
-use Rattle.amf_core.specs.Delivery.{action, brought_up, by_table, check_of, ciphered, ciphered_for, failed, failed_request, faulty, five_gmm_status, freshened, header_of, integrity_protected, integrity_protected_with, is_mm, is_permitted_type, message_of, named_inside, of_link, passed, passed_read, passing, plain, plain_read, received, sender, taken, taken_plain, type_of, under_either, under_new_context}
+use Rattle.amf_core.specs.Delivery.{action, by_table, check_of, ciphered, failed, failed_request, five_gmm_status, header_of, integrity_protected, is_mm, is_permitted_type, message_of, named_inside, of_link, passed, passed_read, passing, plain, plain_read, received, sender, taken, taken_plain, type_of, under_new_context}
 use Rattle.amf_core.specs.Deregistration.{deregistration_accepted}
-use Rattle.amf_core.specs.Identification.{identity_told, suci_told, waited}
+use Rattle.amf_core.specs.Identification.{identity_told, waited}
 use Rattle.amf_core.specs.Naming.{keeper, kept_for, named_by_suci, suci_digits}
-use Rattle.amf_core.specs.Registration.{identity_wanted, is_emergency, registration_requested, request_by_guti, request_by_identity, request_by_suci}
+use Rattle.amf_core.specs.Registration.{is_emergency, registration_requested, request_by_guti, request_by_identity, request_by_suci}
 use Rattle.amf_core.specs.SecurityMode.{mode_rejected}
 use Rattle.amf_core.specs.Service.{service_refused}
-use Rattle.amf_core.specs.Work.{answer, link_of, put, put_link, status, subscriber_of_link}
+use Rattle.amf_core.specs.Work.{answer, link_of, put, put_link, subscriber_of_link}
 use Rattle.amf_core.specs.declared.checks.Check.{Check}
 use Rattle.amf_core.specs.declared.requests.Request.{Request}
 use Rattle.amf_core.specs.declared.subscriber.Subscriber.{Subscriber}
 use Rattle.amf_core.specs.declared.work.Work.{Work}
 use Rattle.amf_laws.proofs.AnswerRows.{failed_settles, mode_completed_settles, mode_rejected_settles, responded_settles, service_settles, transported_settles}
 use Rattle.amf_laws.proofs.Branching.{per_holds, when_holds}
-use Rattle.amf_laws.proofs.Chains.{Chain, IsChecked, IsCurrent, Received, found_is_current, keeper_is_current, kept_now, link_is_current, short_keeper_is_current}
+use Rattle.amf_laws.proofs.Chains.{Chain, IsChecked, IsCurrent, Received, found_is_current, keeper_is_current, link_is_current, short_keeper_is_current}
 use Rattle.amf_laws.proofs.Chains.Chain.{nothing, speaks, waits, passes, does}
 use Rattle.amf_laws.proofs.FitLaws.{checked_is_of, noted_is_current}
 use Rattle.amf_laws.proofs.LinkRecords.{link_is_own, put_supi}
-use Rattle.amf_laws.proofs.Moves.{Beginning, MayLink, Moves, Settled, begins, links_now, own_protection_may}
+use Rattle.amf_laws.proofs.Moves.{MayLink, Settled, begins, links_now, own_protection_may}
 use Rattle.amf_laws.proofs.Moves.Moves.{here}
 use Rattle.amf_laws.proofs.RegistrationRows.{completed_settles, deregistration_accepted_settles, deregistration_requested_settles, requested_settles}
 

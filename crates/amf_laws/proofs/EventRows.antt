@@ -1,5 +1,5 @@
 -- The moves of timers that expire, of what the SMF wants, of commands and of links that are lost.
-use Rattle.std.proofs.Common.{◌≡◌, refl, sym, ap, subst, ◌∙◌, ◌&&◌, ℕ, Bool, true, false, List, Option, Some, None, Result, Ok, Err}
+use Rattle.std.proofs.Common.{◌≡◌, refl, ℕ, Bool, true, false, List, None, Result, Ok, Err}
 use Rattle.std.proofs.lemmas.Bool.{and_parts}
 use Rattle.nas_timers.specs.declared.timer_id.TimerId.{TimerId}
 use Rattle.nas_timers.specs.declared.timer_id.TimerId.TheVariants.{T3510, T3516, T3517, T3521, T3522, T3550, T3560, T3580, T3581, T3582, T3591, T3592}
@@ -23,10 +23,10 @@ use Rattle.amf_core.specs.declared.procedures.Procedure.TheVariants as procedure
 use Rattle.amf_core.specs.declared.procedures.Purpose.TheVariants.{Command}
 use Rattle.amf_core.specs.declared.subscriber.Subscriber.{Subscriber}
 use Rattle.amf_core.specs.declared.work.Work.{Work}
-use Rattle.amf_laws.proofs.Branching.{per_holds, when_holds}
-use Rattle.amf_laws.proofs.ChallengeRows.{challenge_next_settles, challenge_put_moves, challenge_runs, challenge_settles, ended_moves, say_on_moves}
-use Rattle.amf_laws.proofs.Moves.{Beginning, MayLink, MayProtect, Own, by_link_may, links_now, own_protection_may, Moves, Settled, settled, told_as}
-use Rattle.amf_laws.proofs.Moves.Moves.{here, said, asked, starts, stops, puts, links, homes, numbers}
+use Rattle.amf_laws.proofs.Branching.{when_holds}
+use Rattle.amf_laws.proofs.ChallengeRows.{challenge_next_settles, challenge_put_moves, challenge_settles, ended_moves, say_on_moves}
+use Rattle.amf_laws.proofs.Moves.{Beginning, Own, Moves, Settled, settled, told_as}
+use Rattle.amf_laws.proofs.Moves.Moves.{asked, starts, puts}
 use Rattle.amf_laws.proofs.RegistrationRows.{deregistration_put_moves}
 use Rattle.amf_laws.specs.Timers.{Running, none_runs, running_in, with_timer}
 

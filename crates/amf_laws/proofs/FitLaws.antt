@@ -1,22 +1,17 @@
 -- What moves and rows leave of a SUPI's record and timers.
-use Rattle.std.proofs.Common.{◌≡◌, refl, sym, ap, subst, ◌∙◌, inl, inr, ℕ, Bool, true, false, List, Option, Some, None, if◌then◌else◌}
+use Rattle.std.proofs.Common.{◌≡◌, refl, sym, ap, subst, ◌∙◌, inl, inr, ℕ, Bool, true, false, List, Option, Some, None}
 use Rattle.std.specs.Prelude.{is_some}
 use Rattle.std.specs.Str.{bytes_eq}
-use Rattle.nas_base.specs.Branches.{per}
-use Rattle.nas_timers.specs.declared.timer_id.TimerId.{TimerId}
-use Rattle.nas_security.specs.Contexts.{SecurityContext}
 use Rattle.amf_core.specs.Changes.{BeforeState}
-use Rattle.amf_core.specs.Checks.{Opened, Passage, checked_in_use, checked_pending, noted, opened, passed_in_use, passed_pending}
-use Rattle.amf_core.specs.SecurityMode.{commanding_in, commanding_of, commanding_on}
-use Rattle.amf_core.specs.State.{AmfState, subscriber_in}
+use Rattle.amf_core.specs.Checks.{Passage, checked_in_use, checked_pending, noted, opened, passed_in_use, passed_pending}
+use Rattle.amf_core.specs.SecurityMode.{commanding_of, commanding_on}
+use Rattle.amf_core.specs.State.{subscriber_in}
 use Rattle.amf_core.specs.Work.{put, put_link}
-use Rattle.amf_core.specs.declared.procedures.Phase.TheVariants.{Auth, Mode}
 use Rattle.amf_core.specs.declared.procedures.Procedure.{Procedure}
-use Rattle.amf_core.specs.declared.procedures.Procedure.TheVariants as procedures
 use Rattle.amf_core.specs.declared.security_mode.Commanding.{Commanding}
 use Rattle.amf_core.specs.declared.subscriber.Subscriber.{Subscriber}
 use Rattle.amf_core.specs.declared.work.Work.{Work}
-use Rattle.amf_laws.proofs.Branching.{per_holds, when_holds}
+use Rattle.amf_laws.proofs.Branching.{per_holds}
 use Rattle.amf_laws.proofs.ChallengeRows.{challenge_runs}
 use Rattle.amf_laws.proofs.Chains.{Chain, IsChecked, IsCurrent, Received, kept_now}
 use Rattle.amf_laws.proofs.Chains.Chain.{nothing, speaks, waits, passes, does}
@@ -24,7 +19,7 @@ use Rattle.amf_laws.proofs.Moves.{Beginning, Moves, Settled, begins}
 use Rattle.amf_laws.proofs.Moves.Moves.{here, said, asked, starts, stops, puts, links, homes, numbers}
 use Rattle.amf_laws.proofs.Records.{are_equal, changed_among, equals_itself, kept_by_now, other_is_found, own_is_found}
 use Rattle.amf_laws.proofs.FramedFit.{commanded_runs}
-use Rattle.amf_laws.proofs.Told.{acted_of, acts_onto, all_acted}
+use Rattle.amf_laws.proofs.Told.{acts_onto, all_acted}
 use Rattle.amf_laws.specs.Timers.{AreDistinct, Running, running_for, running_in, with_timer}
 
 -- what was kept before the step stays

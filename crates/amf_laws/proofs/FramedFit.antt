@@ -1,14 +1,12 @@
 -- What goes out tells of timers what was said, and leaves the procedures.
-use Rattle.std.proofs.Common.{◌≡◌, refl, sym, ap, subst, ◌∙◌, ◌||◌, ◌==◌, ◌^◌, ℕ, Bool, true, false, List, [], ◌∷◌, ◌++◌, Option, Some, None}
-use Rattle.std.specs.Prelude.{is_some}
+use Rattle.std.proofs.Common.{◌≡◌, refl, sym, ap, subst, ◌∙◌, ℕ, Bool, true, false, List, [], ◌∷◌, Option, Some, None}
 use Rattle.std.specs.Str.{bytes_eq}
 use Rattle.mm_messages.specs.Messages.{spelling}
 use Rattle.mm_messages.specs.declared.message.Mm.{Mm}
-use Rattle.nas_security.specs.Contexts.{SecurityContext}
 use Rattle.nas_security.specs.declared.sends.Pass.{Pass}
 use Rattle.amf_core.specs.Changes.{BeforeState}
-use Rattle.amf_core.specs.Drafts.{by_now, with_record}
-use Rattle.amf_core.specs.Framing.{ciphered_for, commanded_for, counted, counted_command, counted_down, framed, framed_all, framed_ciphered, framed_plain, framed_with_new_context, is_too_long, is_unsent, sent, under_in_use, under_new}
+use Rattle.amf_core.specs.Drafts.{by_now}
+use Rattle.amf_core.specs.Framing.{ciphered_for, commanded_for, counted, counted_command, counted_down, framed, framed_all, framed_ciphered, framed_plain, framed_with_new_context, is_too_long, is_unsent, sent}
 use Rattle.amf_core.specs.SecurityMode.{commanding_of}
 use Rattle.amf_core.specs.State.{subscriber_in}
 use Rattle.amf_core.specs.declared.acts.Act.{Act}

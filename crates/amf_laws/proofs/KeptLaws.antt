@@ -1,20 +1,14 @@
 -- How many 5G-GUTIs are kept, behind a row and behind a step.
-use Rattle.std.proofs.Common.{◌≡◌, refl, sym, ap, subst, ◌∙◌, ◌⊎◌, inl, inr, ℕ, Bool, true, false, List, [], ◌∷◌, Option, Some, None, Result, Ok, Err, if◌then◌else◌}
+use Rattle.std.proofs.Common.{◌≡◌, refl, sym, ap, subst, ◌∙◌, inl, inr, ℕ, Bool, true, false, List, [], ◌∷◌, Result, Ok, Err}
 use Rattle.std.specs.Str.{bytes_eq}
-use Rattle.nas_base.specs.Branches.{per}
 use Rattle.nas_elements.specs.declared.guti.Guti.{Guti}
 use Rattle.milenage.specs.Home.{HomeRecord}
 use Rattle.amf_core.specs.Changes.{BeforeState}
-use Rattle.amf_core.specs.Checks.{noted}
-use Rattle.amf_core.specs.Commands.{authenticate, authenticated, deregister, left}
-use Rattle.amf_core.specs.Delivery.{freshened, received}
-use Rattle.amf_core.specs.Events.{carried_down, dropped, expired, expired_of, fenced, fenced_of, link_lost_of, lost_for, of_supi, sessions_told, sessions_told_of}
 use Rattle.amf_core.specs.Framing.{framed, framed_all}
 use Rattle.amf_core.specs.Keyed.{all_current, current}
-use Rattle.amf_core.specs.State.{AmfState, has_supi, is_same_subscriber, unused}
-use Rattle.amf_core.specs.Step.{Stepped, ended, finished, framed_of, started, step_of, worked}
-use Rattle.amf_core.specs.Transport.{brought_down}
-use Rattle.amf_core.specs.Work.{link_of, put, put_link, subscriber}
+use Rattle.amf_core.specs.State.{AmfState, has_supi, is_same_subscriber}
+use Rattle.amf_core.specs.Step.{ended, finished, framed_of, started, step_of, worked}
+use Rattle.amf_core.specs.Work.{put, put_link, subscriber}
 use Rattle.amf_core.specs.declared.acts.Act.{Act}
 use Rattle.amf_core.specs.declared.acts.Act.TheVariants.{Say, Tell}
 use Rattle.amf_core.specs.declared.acts.Protection.{Protection}
@@ -24,25 +18,20 @@ use Rattle.amf_core.specs.declared.inputs.AmfInput.TheVariants.{Uplink, Expired,
 use Rattle.amf_core.specs.declared.inputs.AmfRefusal.{AmfRefusal}
 use Rattle.amf_core.specs.declared.subscriber.Subscriber.{Subscriber}
 use Rattle.amf_core.specs.declared.work.Work.{Work}
-use Rattle.amf_laws.proofs.AnswerRows.{brought_down_moves}
-use Rattle.amf_laws.proofs.Branching.{per_holds, when_holds}
 use Rattle.amf_laws.proofs.Chains.{Chain, Received, kept_now}
 use Rattle.amf_laws.proofs.Chains.Chain.{nothing, speaks, waits, passes, does}
-use Rattle.amf_laws.proofs.DeliveryRows.{received_chain}
-use Rattle.amf_laws.proofs.EventRows.{SettledBy, authenticated_settles, expired_settles, fenced_settles, left_settles, lost_settles, sessions_settle}
 use Rattle.amf_laws.proofs.FitLaws.{before_stays, chain_before, checked_is_of}
 use Rattle.amf_laws.proofs.FramedFit.{Sends, framed_now, says_send}
 use Rattle.amf_laws.proofs.FramedFit.Sends.{unsent, goes, counts}
-use Rattle.amf_laws.proofs.Moves.{Beginning, Moves, Settled, begins, settled}
+use Rattle.amf_laws.proofs.Moves.{Beginning, Moves}
 use Rattle.amf_laws.proofs.Moves.Moves.{here, said, asked, starts, stops, puts, links, homes, numbers}
 use Rattle.amf_laws.proofs.PassedLaws.{IsAtStart, kept_at_start}
 use Rattle.amf_laws.proofs.StepRows.{Comes, ComesBy, MayHave, all_before, input_comes}
 use Rattle.amf_laws.proofs.StepRows.Comes.{chains, settles, stays}
-use Rattle.amf_laws.proofs.Records.{changed_first, found_among, unchanged_stay}
+use Rattle.amf_laws.proofs.Records.{changed_first, found_among}
 use Rattle.amf_laws.proofs.TimerLaws.{any_may}
 use Rattle.amf_laws.specs.Kept.{AreFew, KeepFew, StayFew}
-use Rattle.amf_laws.specs.Passing.{IsAmong}
-use Rattle.amf_laws.specs.Timers.{Running, running_in, with_timer}
+use Rattle.amf_laws.specs.Timers.{Running}
 
 -- one more record that changes is of those that keep two at most
 first_few : (changes : List Subscriber) (x new s : Subscriber) (same : Bool) → bytes_eq x.supi new.supi ≡ same → AreFew new.kept

@@ -1,15 +1,13 @@
 -- When a link's secure mark is set.
-use Rattle.std.proofs.Common.{◌≡◌, refl, sym, ap, subst, ◌∙◌, ◌⊎◌, inl, inr, ◌==◌, ◌||◌, ℕ, Bool, true, false, List, [], ◌∷◌, ◌++◌, Option, Some, None, Result, Ok, Err, arith}
+use Rattle.std.proofs.Common.{◌≡◌, refl, sym, ap, ◌∙◌, ◌⊎◌, inl, inr, ◌==◌, ◌||◌, ℕ, Bool, true, false, List, [], ◌∷◌, ◌++◌, Option, arith}
 use Rattle.std.proofs.lemmas.Bool.Decides.{nat_tests}
 use Rattle.milenage.specs.Home.{HomeRecord}
-use Rattle.nas_base.specs.Branches.{when◌then◌else◌}
 use Rattle.amf_core.specs.Changes.{BeforeState}
-use Rattle.amf_core.specs.Checks.{noted}
 use Rattle.amf_core.specs.Delivery.{freshened, received}
-use Rattle.amf_core.specs.Framing.{framed, framed_all, sent}
+use Rattle.amf_core.specs.Framing.{framed, framed_all}
 use Rattle.amf_core.specs.Keyed.{all_current}
 use Rattle.amf_core.specs.State.{AmfState, is_same_link, link_in}
-use Rattle.amf_core.specs.Step.{Stepped, ended, finished, framed_of, started, step_of, worked}
+use Rattle.amf_core.specs.Step.{ended, started, worked}
 use Rattle.nas_timers.specs.Durations.{deadline_after, duration_of}
 use Rattle.amf_core.specs.Work.{config_of, link_of, put, put_link}
 use Rattle.amf_core.specs.declared.acts.Act.{Act}
@@ -22,7 +20,7 @@ use Rattle.amf_core.specs.declared.outs.AmfOut.TheVariants.{Send, Passed, Smf, S
 use Rattle.amf_core.specs.declared.requests.Request.{Request}
 use Rattle.amf_core.specs.declared.work.Work.{Work}
 use Rattle.nas_security.specs.declared.sends.Pass.{Pass}
-use Rattle.amf_laws.proofs.Branching.{when_holds, when_true}
+use Rattle.amf_laws.proofs.Branching.{when_true}
 use Rattle.amf_laws.proofs.Chains.{Chain, Received}
 use Rattle.amf_laws.proofs.Chains.Chain.{nothing, speaks, waits, passes, does}
 use Rattle.amf_laws.proofs.DeliveryRows.{received_chain}
@@ -32,7 +30,7 @@ use Rattle.amf_laws.proofs.FramedFit.Sends.{unsent, goes, counts}
 use Rattle.amf_laws.proofs.LinkRecords.{link_number, stays_unset, unset_link}
 use Rattle.amf_laws.proofs.Moves.{Beginning, Moves, Settled}
 use Rattle.amf_laws.proofs.Moves.Moves.{here, said, asked, starts, stops, puts, links, homes, numbers}
-use Rattle.amf_laws.proofs.PassedLaws.{IsAtStart, freshened_at_start}
+use Rattle.amf_laws.proofs.PassedLaws.{freshened_at_start}
 use Rattle.amf_laws.proofs.TimerLaws.{any_may}
 use Rattle.amf_laws.specs.Passing.{SecuresWherePassing, Uplinks, has_passed}
 use Rattle.amf_laws.specs.Timers.{Running}

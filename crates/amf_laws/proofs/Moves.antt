@@ -1,5 +1,5 @@
 -- The small changes that a row is made of, where it has one subscriber.
-use Rattle.std.proofs.Common.{◌≡◌, refl, sym, subst, ◌∙◌, ℕ, Bool, true, false, List, Option, Some, None}
+use Rattle.std.proofs.Common.{◌≡◌, subst, ℕ, true, false, List, Option, Some}
 use Rattle.nas_elements.specs.declared.guti.Guti.{Guti}
 use Rattle.nas_timers.specs.declared.timer_id.TimerId.{TimerId}
 use Rattle.milenage.specs.Home.{HomeRecord}
@@ -17,7 +17,7 @@ use Rattle.amf_core.specs.declared.subscriber.Subscriber.{Subscriber}
 use Rattle.amf_core.specs.declared.work.Work.{Work}
 use Rattle.amf_laws.proofs.Branching.{per_holds, when_holds}
 use Rattle.amf_laws.specs.Kept.{AreFew}
-use Rattle.amf_laws.specs.Timers.{Running, none_runs, running_in, with_timer}
+use Rattle.amf_laws.specs.Timers.{Running, running_in, with_timer}
 
 -- a subscriber's SUPI and kept 5G-GUTIs, the step so far, which of its timers run by what was told, and which by its procedure
 pub record Beginning : Type 0 where

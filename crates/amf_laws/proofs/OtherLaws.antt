@@ -1,26 +1,24 @@
 -- The subscribers that an input doesn't concern.
-use Rattle.std.proofs.Common.{◌≡◌, refl, sym, ap, subst, ◌∙◌, ◌⊎◌, inl, inr, ◌==◌, ℕ, Bool, true, false, List, [], ◌∷◌, ◌++◌, drop, Option, Some, None, Result, Ok, Err, if◌then◌else◌}
+use Rattle.std.proofs.Common.{◌≡◌, refl, sym, ap, subst, ◌∙◌, ◌⊎◌, inl, inr, ℕ, Bool, true, false, List, [], ◌∷◌, ◌++◌, drop, Option, Some, None, Result, Ok, Err, if◌then◌else◌}
 use Rattle.std.specs.Str.{bytes_eq}
-use Rattle.nas_base.specs.Branches.{per, when◌then◌else◌}
 use Rattle.nas_timers.specs.Durations.{deadline_after, duration_of}
 use Rattle.milenage.specs.Home.{HomeRecord}
 use Rattle.nas_elements.specs.declared.guti.Guti.{Guti}
 use Rattle.nas_elements.specs.declared.identity.Identity.{Identity}
 use Rattle.nas_elements.specs.declared.identity.Identity.TheVariants as identities
-use Rattle.nas_security.specs.Contexts.{SecurityContext}
 use Rattle.mm_messages.specs.Messages.{mm_in}
 use Rattle.mm_messages.specs.declared.message.Mm.{Mm}
 use Rattle.mm_messages.specs.declared.message.Mm.TheVariants.{RegistrationRequest, DeregistrationRequestUeOriginating, ServiceRequest, IdentityResponse}
 use Rattle.mm_messages.specs.declared.message.MmRefusal.{MmRefusal}
 use Rattle.amf_core.specs.Changes.{BeforeState}
-use Rattle.amf_core.specs.Checks.{Opened, Passage, checked_in_use, checked_pending, noted, opened, passed_in_use, passed_pending}
+use Rattle.amf_core.specs.Checks.{Passage, checked_in_use, checked_pending, noted, opened, passed_in_use, passed_pending}
 use Rattle.amf_core.specs.Delivery.{freshened, message_of, named_inside, sender}
 use Rattle.amf_core.specs.Framing.{framed, framed_all}
 use Rattle.amf_core.specs.Keyed.{all_current, current, found}
-use Rattle.amf_core.specs.Naming.{is_any, is_guti, keeper, keeps_guti, keeps_stmsi, kept_for, named_by_suci, suci_digits}
+use Rattle.amf_core.specs.Naming.{is_any, is_guti, keeps_guti, keeps_stmsi, kept_for, suci_digits}
 use Rattle.amf_core.specs.SecurityMode.{commanding_on}
-use Rattle.amf_core.specs.State.{AmfState, has_supi, is_same_link, is_same_subscriber, link_in, subscriber_in}
-use Rattle.amf_core.specs.Step.{Stepped, ended, finished, framed_of, started, step_of, worked}
+use Rattle.amf_core.specs.State.{AmfState, is_same_link, is_same_subscriber, link_in, subscriber_in}
+use Rattle.amf_core.specs.Step.{ended, finished, framed_of, started, step_of, worked}
 use Rattle.amf_core.specs.Work.{config_of, link_of, put, put_link, subscriber, subscriber_of_link}
 use Rattle.amf_core.specs.declared.acts.Act.{Act}
 use Rattle.amf_core.specs.declared.acts.Act.TheVariants.{Say, Tell}
@@ -32,25 +30,24 @@ use Rattle.amf_core.specs.declared.inputs.AmfInput.TheVariants.{Uplink, Expired,
 use Rattle.amf_core.specs.declared.inputs.AmfRefusal.{AmfRefusal}
 use Rattle.amf_core.specs.declared.link.Link.{Link}
 use Rattle.amf_core.specs.declared.outs.AmfOut.TheVariants.{Passed, Smf, Start, Stop}
-use Rattle.amf_core.specs.declared.security_mode.Commanding.{Commanding}
 use Rattle.amf_core.specs.declared.subscriber.Subscriber.{Subscriber}
 use Rattle.amf_core.specs.declared.work.Work.{Work}
-use Rattle.amf_laws.proofs.Branching.{per_holds, when_false, when_holds, when_true}
-use Rattle.amf_laws.proofs.Chains.{Chain, IsChecked, IsCurrent, Received, found_is_current, kept_now, link_is_current}
+use Rattle.amf_laws.proofs.Branching.{per_holds, when_holds}
+use Rattle.amf_laws.proofs.Chains.{Chain, IsChecked, Received, kept_now, link_is_current}
 use Rattle.amf_laws.proofs.Chains.Chain.{nothing, speaks, waits, passes, does}
 use Rattle.amf_laws.proofs.DeliveryRows.{MayNamed, MayPass, MayReceive, named_by, named_if, named_in, names, sender_is_current}
 use Rattle.amf_laws.proofs.FitLaws.{IsOf, before_stays, chain_before, checked_is_of, other_stays}
 use Rattle.amf_laws.proofs.FramedFit.{IsFor, Sends, framed_now, says_send}
 use Rattle.amf_laws.proofs.FramedFit.Sends.{unsent, goes, counts}
 use Rattle.amf_laws.proofs.LinkRecords.{link_is_own, put_supi}
-use Rattle.amf_laws.proofs.Moves.{Beginning, MayLink, MayProtect, Moves, Settled, links_now}
+use Rattle.amf_laws.proofs.Moves.{Beginning, MayLink, MayProtect, Moves, links_now}
 use Rattle.amf_laws.proofs.Moves.Moves.{here, said, asked, starts, stops, puts, links, homes, numbers}
 use Rattle.amf_laws.proofs.PassedLaws.{IsAtStart, freshened_at_start, kept_at_start, pass_told}
 use Rattle.amf_laws.proofs.Records.{are_equal, changed_first, found_among, found_has, other_is_found, unchanged_stay}
 use Rattle.amf_laws.proofs.StepRows.{Comes, ComesBy, MayHave, all_before, input_comes}
 use Rattle.amf_laws.proofs.StepRows.Comes.{chains, settles, stays}
-use Rattle.amf_laws.specs.Others.{Concerns, IsKeeper, IsLinked, IsReadIn, Name, Names, OpenTo, OthersStay, identity_in}
-use Rattle.amf_laws.specs.Passing.{IsAmong, IsContextOf}
+use Rattle.amf_laws.specs.Others.{Concerns, IsKeeper, IsLinked, IsReadIn, Names, OpenTo, OthersStay, identity_in}
+use Rattle.amf_laws.specs.Passing.{IsAmong}
 use Rattle.amf_laws.specs.Timers.{Running}
 
 -- who may change isn't who may not

@@ -1,6 +1,5 @@
 -- What is told of passes, behind a row and behind a step.
-use Rattle.std.proofs.Common.{◌≡◌, refl, sym, ap, subst, ◌∙◌, ◌⊎◌, inl, inr, ◌<◌, ◌||◌, ℕ, Bool, true, false, List, [], ◌∷◌, ◌++◌, get_or, Option, Some, None, Result, Ok, Err}
-use Rattle.nas_base.specs.Branches.{per}
+use Rattle.std.proofs.Common.{◌≡◌, refl, sym, ap, subst, inl, inr, ◌<◌, ℕ, Bool, false, List, [], ◌∷◌, ◌++◌, get_or, Option, Some, None}
 use Rattle.nas_base.specs.declared.count.Dir.TheVariants.{Up}
 use Rattle.milenage.specs.Home.{HomeRecord}
 use Rattle.nas_security.proofs.PassingLaws.{passed_where_passing}
@@ -9,35 +8,33 @@ use Rattle.nas_security.specs.Passing.{Passes, judged}
 use Rattle.nas_security.specs.declared.sends.Pass.{Pass}
 use Rattle.nas_security.specs.declared.verdicts.Verdict.{Verdict}
 use Rattle.nas_security.specs.declared.verdicts.Verdict.TheVariants as verdicts
-use Rattle.amf_core.specs.Checks.{Opened, Passage, checked_in_use, checked_pending, noted, opened, opened_by, passed_in_use, passed_pending}
+use Rattle.amf_core.specs.Checks.{Opened, Passage, checked_in_use, checked_pending, opened, opened_by, passed_in_use, passed_pending}
 use Rattle.amf_core.specs.Delivery.{freshened, received}
-use Rattle.amf_core.specs.Framing.{framed, framed_all, sent}
+use Rattle.amf_core.specs.Framing.{framed, framed_all}
 use Rattle.amf_core.specs.SecurityMode.{commanding_on}
 use Rattle.amf_core.specs.State.{AmfState, is_same_subscriber}
-use Rattle.amf_core.specs.Step.{Stepped, ended, finished, framed_of, started, step_of, worked}
+use Rattle.amf_core.specs.Step.{ended, started, worked}
 use Rattle.nas_timers.specs.Durations.{deadline_after, duration_of}
 use Rattle.amf_core.specs.Work.{config_of, put, put_link}
 use Rattle.amf_core.specs.declared.acts.Act.{Act}
 use Rattle.amf_core.specs.declared.acts.Act.TheVariants.{Say, Tell}
 use Rattle.amf_core.specs.declared.acts.Protection.{Protection}
 use Rattle.amf_core.specs.declared.framing.Framed.{Framed}
-use Rattle.amf_core.specs.declared.inputs.AmfInput.TheVariants.{Uplink}
 use Rattle.amf_core.specs.declared.outs.AmfOut.{AmfOut}
 use Rattle.amf_core.specs.declared.outs.AmfOut.TheVariants.{Send, Passed, Smf, Start, Stop}
-use Rattle.amf_core.specs.declared.security_mode.Commanding.{Commanding}
 use Rattle.amf_core.specs.declared.subscriber.Subscriber.{Subscriber}
 use Rattle.amf_core.specs.declared.work.Work.{Work}
 use Rattle.amf_laws.proofs.Branching.{per_holds, when_holds}
 use Rattle.amf_laws.proofs.Chains.{Chain, IsChecked, Received, kept_now}
 use Rattle.amf_laws.proofs.Chains.Chain.{nothing, speaks, waits, passes, does}
-use Rattle.amf_laws.proofs.DeliveryRows.{MayReceive, received_chain}
+use Rattle.amf_laws.proofs.DeliveryRows.{received_chain}
 use Rattle.amf_laws.proofs.FramedFit.{Sends, says_send}
 use Rattle.amf_laws.proofs.FramedFit.Sends.{unsent, goes, counts}
-use Rattle.amf_laws.proofs.Moves.{Beginning, Moves, Settled}
+use Rattle.amf_laws.proofs.Moves.{Beginning, Moves}
 use Rattle.amf_laws.proofs.Moves.Moves.{here, said, asked, starts, stops, puts, links, homes, numbers}
 use Rattle.amf_laws.proofs.Records.{unchanged_stay}
 use Rattle.amf_laws.proofs.TimerLaws.{any_may}
-use Rattle.amf_laws.specs.Passing.{AllPassed, IsAmong, IsContextOf, NothingPasses, OpensWherePassing, Uplinks, WasChecked}
+use Rattle.amf_laws.specs.Passing.{AllPassed, IsAmong, OpensWherePassing, Uplinks, WasChecked}
 use Rattle.amf_laws.specs.Timers.{Running}
 
 -- what is told of passes is so

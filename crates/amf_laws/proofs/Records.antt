@@ -1,12 +1,10 @@
 -- Records by their keys, as changes leave them.
-use Rattle.std.proofs.Common.{◌≡◌, refl, sym, ap, ◌∙◌, subst, inl, inr, ℕ, ◌==◌, Bool, true, false, List, [], ◌∷◌, Option, Some, None, if◌then◌else◌, arith}
+use Rattle.std.proofs.Common.{◌≡◌, refl, sym, ap, ◌∙◌, subst, inl, inr, ℕ, Bool, true, false, List, [], ◌∷◌, Option, Some, None, if◌then◌else◌, arith}
 use Rattle.std.specs.Prelude.{is_some, option_map}
 use Rattle.std.specs.Str.{bytes_eq}
 use Rattle.std.proofs.lemmas.Slice.Eq.{bytes_eq-Decides}
-use Rattle.std.proofs.lemmas.Bool.Decides.{nat_tests}
 use Rattle.amf_core.specs.Keyed.{all_current, current, found, newest, or_kept}
-use Rattle.amf_core.specs.State.{has_number, has_supi, is_same_link, is_same_subscriber, subscriber_in}
-use Rattle.amf_core.specs.declared.link.Link.{Link}
+use Rattle.amf_core.specs.State.{is_same_subscriber, subscriber_in}
 use Rattle.amf_core.specs.declared.subscriber.Subscriber.{Subscriber}
 use Rattle.amf_laws.specs.Timers.{AreDistinct}
 use Rattle.amf_laws.specs.Passing.{IsAmong}

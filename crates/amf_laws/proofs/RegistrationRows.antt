@@ -1,11 +1,11 @@
 -- The moves of registrations of one subscriber, and of de-registrations.
-use Rattle.std.proofs.Common.{◌≡◌, refl, sym, subst, ◌∙◌, ◌&&◌, ℕ, ◌^◌, Bool, true, false, nat_lt, List, [], ◌∷◌, arith, Option, Some, None}
-use Rattle.nas_timers.specs.declared.timer_id.TimerId.TheVariants.{T3522, T3550, T3560}
+use Rattle.std.proofs.Common.{◌≡◌, refl, subst, ◌&&◌, ℕ, ◌^◌, Bool, true, nat_lt, List, [], ◌∷◌, arith, Option, Some}
+use Rattle.nas_timers.specs.declared.timer_id.TimerId.TheVariants.{T3522, T3550}
 use Rattle.nas_elements.specs.declared.guti.Guti.{Guti}
 use Rattle.nas_security.specs.Contexts.{SecurityContext}
 use Rattle.nas_security.specs.declared.challenges.Challenge.{Challenge}
-use Rattle.amf_core.specs.Acceptance.{acceptance_ended, acceptance_put, confirmed, is_challenge, is_initial, kept_with, new_guti, offered, opened_acceptance, registration_completed, registration_goes_on, registration_granted, released, tmsi_of, told_sessions}
-use Rattle.amf_core.specs.Deregistration.{deregistered, deregistration_accepted, deregistration_put, deregistration_requested, deregistration_sent, is_deregistering, unregistered}
+use Rattle.amf_core.specs.Acceptance.{acceptance_ended, confirmed, is_challenge, is_initial, kept_with, new_guti, offered, opened_acceptance, registration_completed, registration_goes_on, released, tmsi_of, told_sessions}
+use Rattle.amf_core.specs.Deregistration.{deregistered, deregistration_accepted, deregistration_put, deregistration_requested, is_deregistering, unregistered}
 use Rattle.amf_core.specs.Registration.{counting_capability, equal_acceptance, is_enough, is_granted, is_on, is_running, request_weighed, requested}
 use Rattle.amf_core.specs.Naming.{is_any, is_guti}
 use Rattle.amf_core.specs.Work.{config_of, link_of}
@@ -18,13 +18,12 @@ use Rattle.amf_core.specs.declared.procedures.Procedure.{Procedure}
 use Rattle.amf_core.specs.declared.procedures.Procedure.TheVariants as procedures
 use Rattle.amf_core.specs.declared.procedures.Purpose.TheVariants.{Registration}
 use Rattle.amf_core.specs.declared.requests.Request.{Request}
-use Rattle.amf_core.specs.declared.subscriber.Offer.{Offer}
 use Rattle.amf_core.specs.declared.subscriber.Subscriber.{Subscriber}
 use Rattle.amf_core.specs.declared.work.Work.{Work}
 use Rattle.amf_laws.proofs.Branching.{per_holds, when_holds}
 use Rattle.amf_laws.proofs.ChallengeRows.{challenge_settles, ended_moves, say_on_moves, stopped_moves}
-use Rattle.amf_laws.proofs.Moves.{Beginning, MayLink, MayProtect, Own, by_link_may, links_now, own_protection_may, Moves, Settled, settled}
-use Rattle.amf_laws.proofs.Moves.Moves.{here, said, asked, starts, stops, puts, links, homes, numbers}
+use Rattle.amf_laws.proofs.Moves.{Beginning, MayLink, Own, by_link_may, links_now, own_protection_may, Moves, Settled, settled}
+use Rattle.amf_laws.proofs.Moves.Moves.{said, asked, starts, puts, numbers}
 use Rattle.amf_laws.specs.Kept.{AreFew}
 use Rattle.amf_laws.specs.Timers.{Running, none_runs, running_in, with_timer}
 

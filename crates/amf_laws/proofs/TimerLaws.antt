@@ -1,18 +1,17 @@
 -- The timers that run are those of the procedures, behind each step.
-use Rattle.std.proofs.Common.{◌≡◌, refl, sym, ap, subst, ◌∙◌, ℕ, Bool, true, false, List, [], ◌∷◌, Option, Some, None, Result, Ok, Err, if◌then◌else◌}
-use Rattle.std.specs.Prelude.{is_some}
+use Rattle.std.proofs.Common.{◌≡◌, refl, sym, ap, subst, ◌∙◌, ℕ, Bool, true, false, List, [], Option, Some, None, Result, Ok, Err, if◌then◌else◌}
 use Rattle.std.specs.Str.{bytes_eq}
-use Rattle.nas_base.specs.Branches.{per, when◌then◌else◌}
+use Rattle.nas_base.specs.Branches.{per}
 use Rattle.nas_timers.specs.declared.timer_id.TimerId.{TimerId}
 use Rattle.nas_timers.specs.declared.timer_id.TimerId.TheVariants.{T3510, T3516, T3517, T3521, T3522, T3550, T3560, T3580, T3581, T3582, T3591, T3592}
 use Rattle.milenage.specs.Home.{HomeRecord}
 use Rattle.amf_core.specs.Changes.{BeforeState}
 use Rattle.amf_core.specs.Commands.{authenticate, authenticated, deregister, left}
-use Rattle.amf_core.specs.Delivery.{brought_up, freshened, received}
-use Rattle.amf_core.specs.Events.{carried_down, dropped, expired, expired_of, fenced, fenced_of, link_lost_of, lost_for, of_supi, sessions_told, sessions_told_of}
+use Rattle.amf_core.specs.Delivery.{freshened, received}
+use Rattle.amf_core.specs.Events.{carried_down, dropped, expired, fenced, fenced_of, link_lost_of, lost_for, of_supi, sessions_told, sessions_told_of}
 use Rattle.amf_core.specs.Keyed.{all_current}
 use Rattle.amf_core.specs.State.{AmfState, is_same_subscriber, subscriber_in, unused}
-use Rattle.amf_core.specs.Step.{Stepped, ended, finished, framed_of, started, step_of, worked}
+use Rattle.amf_core.specs.Step.{ended, finished, framed_of, started, step_of, worked}
 use Rattle.amf_core.specs.Transport.{brought_down}
 use Rattle.amf_core.specs.Work.{link_of, put_link, subscriber}
 use Rattle.amf_core.specs.declared.framing.Framed.{Framed}
@@ -23,16 +22,15 @@ use Rattle.amf_core.specs.declared.subscriber.Subscriber.{Subscriber}
 use Rattle.amf_core.specs.declared.work.Work.{Work}
 use Rattle.amf_laws.proofs.AnswerRows.{brought_down_moves}
 use Rattle.amf_laws.proofs.Branching.{per_holds, when_holds}
-use Rattle.amf_laws.proofs.Chains.{Chain, IsCurrent, Received, found_before, kept_now}
-use Rattle.amf_laws.proofs.Chains.Chain.{nothing}
-use Rattle.amf_laws.proofs.DeliveryRows.{MayPass, MayReceive, received_chain}
+use Rattle.amf_laws.proofs.Chains.{Chain, Received, found_before, kept_now}
+use Rattle.amf_laws.proofs.DeliveryRows.{MayReceive, received_chain}
 use Rattle.amf_laws.proofs.EventRows.{SettledBy, authenticated_settles, expired_settles, fenced_settles, left_settles, lost_settles, sessions_settle}
 use Rattle.amf_laws.proofs.FitLaws.{Fits, IsBegun, before_stays, chain_before, chain_fits, fit_begins, settled_fits}
-use Rattle.amf_laws.proofs.FramedFit.{Leaves, acts_leave, framed_now}
+use Rattle.amf_laws.proofs.FramedFit.{Leaves, acts_leave}
 use Rattle.amf_laws.proofs.Moves.{Beginning, Settled, begins, settled}
 use Rattle.amf_laws.proofs.Moves.Moves.{here}
 use Rattle.amf_laws.proofs.Records.{are_equal, found_has, kept_by_now, stay_distinct, unchanged_stay}
-use Rattle.amf_laws.specs.Timers.{AreDistinct, FitProcedures, Running, StayDistinct, TimersFit, all_taken, expired_by, none_runs, running_for, running_in, running_of, taken_by, with_timer}
+use Rattle.amf_laws.specs.Timers.{AreDistinct, FitProcedures, Running, StayDistinct, TimersFit, all_taken, expired_by, none_runs, running_for, running_in, running_of, with_timer}
 
 -- what a row leaves: all fits, and what was kept before is still there
 pub record Left (x : List ℕ) (r : Running) (a : AmfState) (w : Work) : Type 0 where

@@ -1,7 +1,7 @@
 -- Octets that pass no check.
-use Rattle.std.proofs.Common.{◌≡◌, ◌≤◌, refl, sym, ap, subst, ◌∙◌, ◌⊎◌, inl, inr, ◌<◌, ◌==◌, ◌||◌, ℕ, Bool, true, false, not, List, [], ◌∷◌, ◌++◌, drop, length, nat_lt, get_or, Option, Some, None, Result, Ok, Err, arith}
+use Rattle.std.proofs.Common.{◌≡◌, ◌≤◌, refl, sym, ap, subst, ◌∙◌, ◌⊎◌, inl, inr, ◌<◌, ◌==◌, ◌||◌, ℕ, Bool, true, false, not, List, [], ◌∷◌, ◌++◌, drop, length, nat_lt, get_or, Option, Some, None, Result, Ok, arith}
 use Rattle.std.proofs.lemmas.Bool.Decides.{nat_tests}
-use Rattle.nas_base.specs.Branches.{per, when◌then◌else◌}
+use Rattle.nas_base.specs.Branches.{per}
 use Rattle.milenage.specs.Home.{HomeRecord}
 use Rattle.nas_elements.specs.declared.identity.Identity.{Identity}
 use Rattle.nas_security.specs.Contexts.{SecurityContext}
@@ -9,8 +9,8 @@ use Rattle.mm_messages.specs.Messages.{mm_in, spelling}
 use Rattle.mm_messages.specs.Service.{service_reject}
 use Rattle.mm_messages.specs.declared.message.Mm.{Mm}
 use Rattle.mm_messages.specs.declared.message.Mm.TheVariants.{ServiceReject, ServiceRequest}
-use Rattle.amf_core.specs.Checks.{Opened, Passage, checked_in_use, checked_pending, opened, passed_in_use, passed_pending}
-use Rattle.amf_core.specs.Delivery.{check_of, ciphered, failed, failed_request, freshened, header_of, integrity_protected, is_mm, message_of, passing, plain, plain_read, received, sender, taken_plain, under_either, under_new_context}
+use Rattle.amf_core.specs.Checks.{Opened, Passage, checked_in_use, checked_pending, opened}
+use Rattle.amf_core.specs.Delivery.{check_of, ciphered, failed, failed_request, freshened, header_of, integrity_protected, is_mm, message_of, plain, plain_read, received, sender, taken_plain, under_new_context}
 use Rattle.amf_core.specs.Framing.{framed, framed_all, is_too_long}
 use Rattle.amf_core.specs.SecurityMode.{commanding_on}
 use Rattle.amf_core.specs.Service.{service_refused}
@@ -26,16 +26,15 @@ use Rattle.amf_core.specs.declared.acts.Protection.{Protection}
 use Rattle.amf_core.specs.declared.acts.Protection.TheVariants.{Plain}
 use Rattle.amf_core.specs.declared.link.Link.{Link}
 use Rattle.amf_core.specs.declared.outs.AmfOut.TheVariants.{Send}
-use Rattle.amf_core.specs.declared.security_mode.Commanding.{Commanding}
 use Rattle.amf_core.specs.declared.subscriber.Subscriber.{Subscriber}
 use Rattle.amf_core.specs.declared.work.Work.{Work}
 use Rattle.amf_laws.proofs.Branching.{per_holds, when_false, when_holds, when_true}
-use Rattle.amf_laws.proofs.Chains.{IsCurrent, kept_now, link_is_current}
+use Rattle.amf_laws.proofs.Chains.{link_is_current}
 use Rattle.amf_laws.proofs.DeliveryRows.{sender_is_current}
 use Rattle.amf_laws.proofs.MarkLaws.{fresh_unset}
 use Rattle.amf_laws.proofs.PassedLaws.{IsAtStart, freshened_at_start, kept_at_start, something_passes}
 use Rattle.amf_laws.proofs.Records.{unchanged_stay}
-use Rattle.amf_laws.specs.Passing.{AreRead, FailedRequestsRejected, IsAmong, IsContextOf, IsFailedRequest, IsRejected, NothingPasses, PassNoCheck, RejectsRequest, UncheckedDoNothing, Uplinks}
+use Rattle.amf_laws.specs.Passing.{AreRead, FailedRequestsRejected, IsAmong, IsRejected, NothingPasses, PassNoCheck, UncheckedDoNothing}
 
 -- what passes nothing isn't opened
 none_opened : (context : SecurityContext) (octets : List ℕ) → get_or octets 6 0 < 256 → NothingPasses context octets → opened context octets ≡ None

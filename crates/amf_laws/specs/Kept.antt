@@ -1,5 +1,5 @@
 -- How many 5G-GUTIs are kept for a subscriber (TS 24.501 clause 5.5.1.2.4).
-use Rattle.std.specs.Prelude.{◌≤◌, ℕ, List, length, Result, Ok, Err}
+use Rattle.std.specs.Prelude.{◌≤◌, List, length, Result, Ok, Err}
 use Rattle.nas_elements.specs.declared.guti.Guti.{Guti}
 use Rattle.amf_core.specs.State.{AmfState}
 use Rattle.amf_core.specs.Step.{Stepped}

@@ -1,7 +1,7 @@
 //! A home network over the subscriber of set 1 of TS 35.208 clause 4.3.
 ghost use Rattle.std.specs.Prelude.{◌<◌, ◌^◌};
 
-use crate::{Home, HomeList, HomeListRefusal, HomeRefusal, HomeSubscriber, ResyncRefusal};
+use crate::{Home, HomeEntry, HomeList, HomeListRefusal, HomeRefusal, ResyncRefusal};
 use hex::FromHex;
 use nas_base::Supi;
 use std::alloc::Global;
@@ -34,10 +34,10 @@ fn supi(last: u8) -> Result<Supi, Fail> {
     Ok(Supi::from_slice(&digits).ok_or("a SUPI")?)
 }
 
-fn subscriber(last: u8, sqn: u64) -> Result<HomeSubscriber, Fail>
+fn subscriber(last: u8, sqn: u64) -> Result<HomeEntry, Fail>
     requires { sqn < 2 ^ 48 }
 {
-    Ok(HomeSubscriber {
+    Ok(HomeEntry {
         supi: supi(last)?,
         k: <[u8; 16]>::from_hex("465b5ce8b199b49faa5f0a2ee238a6bc")?,
         opc: <[u8; 16]>::from_hex("cd63cb71954a9f4e48a5994e37a02baf")?,

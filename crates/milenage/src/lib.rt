@@ -25,5 +25,5 @@ pub use crate::laws::{
     auts_is_right, auts_opens, calls_only_raise, challenges_rise, vector_is_taken,
 };
 pub use crate::outputs::F2345;
-pub use crate::subscribers::{HomeList, HomeListRefusal, HomeSubscriber};
+pub use crate::subscribers::{HomeEntry, HomeList, HomeListRefusal};
 pub use crate::vector::{Vector, make_vector};

@@ -9,7 +9,7 @@ use std::marker::Model;
 
 /// A subscriber of a home network.
 #[derive(Drop)]
-pub struct HomeSubscriber {
+pub struct HomeEntry {
     pub supi: Supi,
     pub k: [u8; 16],
     pub opc: [u8; 16],
@@ -19,7 +19,7 @@ pub struct HomeSubscriber {
     pub sqn: u64,
 }
 
-impl Model for HomeSubscriber {
+impl Model for HomeEntry {
     ghost use Rattle.std.specs.Prelude.{◌≡◌, true};
     ghost use Rattle.milenage.specs.Home.{HomeRecord, is_sqn};
 
@@ -33,7 +33,7 @@ impl Model for HomeSubscriber {
 /// Subscribers of a home network: at most 64, no two with one SUPI.
 #[derive(Drop)]
 pub struct HomeList {
-    pub items: Vec<HomeSubscriber>,
+    pub items: Vec<HomeEntry>,
 }
 
 impl Model for HomeList {
@@ -58,12 +58,12 @@ pub enum HomeListRefusal {
     Memory,
 }
 
-impl HomeSubscriber {
+impl HomeEntry {
     /// An equal value.
-    pub fn copy(&self) -> HomeSubscriber
+    pub fn copy(&self) -> HomeEntry
         ensures { result ≡ self.now }
     {
-        HomeSubscriber {
+        HomeEntry {
             supi: self.supi.copy(),
             k: self.k,
             opc: self.opc,
@@ -90,7 +90,7 @@ impl HomeList {
     /// `Known` exactly where the list has its SUPI, else `Full` exactly where it has 64 subscribers, else `Memory` where there is
     /// none. The list is then as it was.
     #[tactic(auto, using(crate::proofs::HomeLemmas::home_pushed))]
-    pub fn push(&mut self, subscriber: HomeSubscriber) -> Result<(), HomeListRefusal>
+    pub fn push(&mut self, subscriber: HomeEntry) -> Result<(), HomeListRefusal>
         ensures { Pushes result subscriber self.old self.new }
     {
         if self.contain(&subscriber.supi) {
@@ -130,7 +130,7 @@ impl HomeList {
     }
 
     /// The subscribers in order.
-    pub fn as_slice(&self) -> &[HomeSubscriber]
+    pub fn as_slice(&self) -> &[HomeEntry]
         ensures value { result.now ≡ self.now }
         ensures home { is_home result.now ≡ true }
     {
@@ -138,7 +138,7 @@ impl HomeList {
     }
 
     // The subscriber of a SUPI.
-    pub(crate) fn find(&self, supi: &Supi) -> Option<&HomeSubscriber>
+    pub(crate) fn find(&self, supi: &Supi) -> Option<&HomeEntry>
         ensures { option_copied result ≡ home_record supi.now self.now }
     {
         for subscriber in &self.items {
@@ -159,7 +159,7 @@ impl HomeList {
 }
 
 // Copies of the subscribers.
-fn copies(alloc: Global, subscribers: &[HomeSubscriber]) -> Result<Vec<HomeSubscriber>, Memory>
+fn copies(alloc: Global, subscribers: &[HomeEntry]) -> Result<Vec<HomeEntry>, Memory>
     ensures { IfOk result (λ items. items.items ≡ subscribers.now) }
 {
     let mut items = Vec::new(alloc);
@@ -173,7 +173,7 @@ fn copies(alloc: Global, subscribers: &[HomeSubscriber]) -> Result<Vec<HomeSubsc
 }
 
 // The first of these subscribers that has this SUPI has this SQN_HE.
-fn set_first(subscribers: &mut [HomeSubscriber], supi: &Supi, sqn: u64)
+fn set_first(subscribers: &mut [HomeEntry], supi: &Supi, sqn: u64)
     requires { is_sqn sqn ≡ true }
     ensures { subscribers.new ≡ with_sqn supi.now sqn subscribers.old }
 {

@@ -4,7 +4,7 @@ ghost use Rattle.nas_network.specs.Config.{amf_of, amf_values, at_amf, at_home, 
 
 use crate::{NetConfig, Subscriber};
 use amf_core::{AmfConfig, AmfSubscriber, AmfSubscribers};
-use milenage::{HomeList, HomeSubscriber};
+use milenage::{HomeEntry, HomeList};
 use nas_base::Memory;
 use std::alloc::Global;
 
@@ -66,10 +66,10 @@ impl Subscriber {
     }
 
     // As the home network knows it.
-    fn to_home(&self) -> HomeSubscriber
+    fn to_home(&self) -> HomeEntry
         ensures { result ≡ home_of self.now }
     {
-        HomeSubscriber {
+        HomeEntry {
             supi: self.supi.copy(),
             k: self.k,
             opc: self.opc,

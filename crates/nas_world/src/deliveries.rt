@@ -3,7 +3,8 @@ ghost use Rattle.std.specs.Prelude.{◌≡◌, IfOk, OnErr};
 ghost use Rattle.nas_world.specs.Events.{brought_to_net, brought_to_ue, delivered_to_net, delivered_to_ue};
 
 use crate::logs::{copied, copied_at};
-use crate::{Heard, Seen, World};
+use crate::passes::Heard;
+use crate::{Seen, World};
 use nas_base::{Memory, Octets};
 use std::alloc::Global;
 

@@ -4,8 +4,10 @@ ghost use Rattle.nas_base.specs.Branches.{per};
 ghost use Rattle.nas_world.specs.Honest.{all_honest, card_in, has_kamf_of, has_net_kamf, heard_down, heard_up, is_fair, net_kamf, passing, with_sent_down, with_sent_up};
 ghost use Rattle.nas_world.specs.declared.passes.End.TheVariants as ends;
 
+use crate::SentLog;
+use crate::cards::Card;
+use crate::passes::{End, Heard, Passing};
 use crate::sent::Sent;
-use crate::{Card, End, Heard, Passing, SentLog};
 use key_chain::{kamf, kausf, kseaf};
 use milenage::make_vector;
 use nas_base::{Memory, Plmn, Supi};

@@ -24,11 +24,9 @@ mod test_world;
 mod tests;
 mod world;
 
-pub use crate::cards::Card;
 pub use crate::config::WorldConfig;
 pub use crate::event::{Event, NetOrder, RefusedWord};
 pub use crate::logs::{SentLog, TakenLog};
-pub use crate::passes::{End, Heard, Passing};
 pub use crate::script::{Script, ScriptLine};
 pub use crate::seen::Seen;
 pub use crate::world::World;
