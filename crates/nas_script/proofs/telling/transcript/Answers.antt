@@ -1,5 +1,6 @@
 -- Each write tells a front of the transcript, and what tells the rest tells the whole.
-use Rattle.std.proofs.Common.{◌∙◌, ◌+◌, ap, refl, subst, List, ℕ, is_ok, drop}
+use Rattle.std.proofs.Common.{◌∙◌, ◌+◌, ap, refl, subst, sym, List, ℕ, is_ok, drop}
+use Rattle.std.proofs.lemmas.List.{drop_all}
 use Rattle.std.proofs.lemmas.Result.{err_from_is_err_and}
 use Rattle.nas_base.specs.Outside.{Tells}
 use Rattle.nas_base.proofs.SinkLaws.{tells_after, tells_front}
@@ -46,3 +47,10 @@ loop-line-preserved g c = record {
       (subst (λ (t : List ℕ). Tells is_output (g.O.Sink.written c.loop-line.out) new (g.O.Sink.fault_count c.loop-line.out) now t r) later
       (tells_after is_output _ _ _ _ _ _ _ (events_text (c.loop-line.number + 1) c.write_event.new.world (drop (c.loop-line.line-index + 1) c.deref-line-items.result.now)) c.write_event.result r (ap is_ok c.in_ok-write_event.was) c.write_event.ensures.text rest));
 }
+
+pub returns : goal.returns
+returns g c =
+    c.loop-line.invariant.told _ _ _
+    (subst (λ (t : List ℕ). Tells is_output (g.O.Sink.written c.loop-line.out) (g.O.Sink.written c.write_end.new.out) (g.O.Sink.fault_count c.loop-line.out) (g.O.Sink.fault_count c.write_end.new.out) t c.write_end.result)
+    (sym (ap (events_text c.loop-line.number c.loop-line.world) (drop_all c.loop-line.line-index c.deref-line-items.result.now c.loop-line-test.false)))
+    c.write_end.ensures)
