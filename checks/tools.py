@@ -295,10 +295,16 @@ def transcript_of(command, configuration, script):
     return done.stdout
 
 
+def configuration_of(script):
+    """The configuration of a script: the one with its name, or that of the registration."""
+    own = script[:-len("script")] + "toml"
+    return own if os.path.isfile(own) else os.path.join(os.path.dirname(script), "registration.toml")
+
+
 def try_runs(command, scripts, folder):
-    """The scripts with the configurations beside them, as they are and without ciphering."""
+    """The scripts with their configurations, as they are and without ciphering."""
     for script in scripts:
-        configuration = script[:-len("script")] + "toml"
+        configuration = configuration_of(script)
         plain = os.path.join(folder, "plain.toml")
         with open(configuration) as file, open(plain, "w") as copy:
             copy.write(file.read().replace("ciphering = 2", "ciphering = 0"))
