@@ -11,6 +11,7 @@ use Rattle.nas_network.specs.Config.{IsNetwork, NetValues, SubscriberValues, amf
 use Rattle.nas_network.specs.Owners.{HaveOwners, kept, running_for, running_of, timed}
 use Rattle.nas_network.specs.State.{first, no_timers, timers_of}
 use Rattle.nas_network.proofs.Beginnings.{subscribed_once}
+use Rattle.nas_network.proofs.Few.{first_keep}
 
 none_has : (s : AmfSubscriber) (others : List AmfSubscriber) → not (has_same_supi s others) ≡ true
     → subscriber_in s.supi (map unknown_yet others) ≡ None
@@ -47,4 +48,5 @@ first_owned config h = record {
   fit = λ x. first_fit x config.subscribers;
   distinct = first_distinct (at_amf config.subscribers) (subscribed_once config.plmn config.subscribers h.known);
   same = first_same config.subscribers;
+  few = first_keep (at_amf config.subscribers);
 }

@@ -1,6 +1,7 @@
 mod Beginnings
 mod Changed
 mod Due
+mod Few
 mod FirstOwners
 pub mod Growing
 mod Owners

@@ -9,11 +9,13 @@ use Rattle.amf_core.specs.declared.inputs.AmfInput.{AmfInput}
 use Rattle.amf_core.specs.declared.inputs.AmfInput.TheVariants as inputs
 use Rattle.amf_core.specs.declared.inputs.AmfRefusal.{AmfRefusal}
 use Rattle.amf_core.specs.declared.inputs.AmfRefusal.TheVariants as steps
+use Rattle.amf_laws.specs.Kept.{StayFew}
 use Rattle.amf_laws.specs.Timers.{AreDistinct, FitProcedures, Running, StayDistinct, TimersFit, expired_by, taken_by}
 use Rattle.amf_laws.specs.Timers as laws
+use Rattle.amf_laws.proofs.KeptLaws.{kept_lists_have_two_at_most}
 use Rattle.amf_laws.proofs.TimerLaws.{subscribers_stay_distinct, timers_fit_procedures}
 use Rattle.nas_network.specs.Network.{Commands, amf_command, answered, commanded, delivered, dropped, outcome}
-use Rattle.nas_network.specs.Owners.{HaveOwners, kept, running_for, running_of, timed}
+use Rattle.nas_network.specs.Owners.{HaveOwners, all_keep_few, kept, running_for, running_of, timed}
 use Rattle.nas_network.specs.State.{NetworkState, timers_of}
 use Rattle.nas_network.specs.Ticks.{DueTimer, all_fired, due_list, fired, is_due, ticked, told, without}
 use Rattle.nas_network.specs.Turns.{Turn, all_taken, begun, onto, stepped, turned}
@@ -22,6 +24,7 @@ use Rattle.nas_network.specs.declared.command.NetCommand.TheVariants.{Authentica
 use Rattle.nas_network.specs.declared.command.NetDelivery.{NetDelivery}
 use Rattle.nas_network.specs.declared.command.NetRefusal.{NetRefusal}
 use Rattle.nas_network.specs.declared.command.NetRefusal.TheVariants as refusals
+use Rattle.nas_network.proofs.Few.{all_keep, each_keeps_few}
 use Rattle.nas_network.proofs.Running.{all_run, all_stay, all_timed, stop_runs}
 use Rattle.nas_network.proofs.Supis.{SupisStay, is_one_of, no_record_of, no_timers_of, supis_stay, timed_stay}
 
@@ -43,6 +46,7 @@ record Lawful (a : AmfState) (input : AmfInput) (s : Stepped) : Type 0 where
   fit : TimersFit a input (Ok s)
   distinct : StayDistinct a (Ok s)
   supis : SupisStay a (Ok s)
+  few : StayFew a (Ok s)
 
 lawful : (n : NetworkState) (rand : List ℕ) (input : AmfInput) (s : Stepped) → step_of n.amf n.home n.moment rand input ≡ Ok s
     → Lawful n.amf input s
@@ -50,6 +54,7 @@ lawful n rand input s step = record {
   fit = subst (λ (r : Result Stepped AmfRefusal). TimersFit n.amf input r) step (timers_fit_procedures n.amf n.home n.moment rand input);
   distinct = subst (λ (r : Result Stepped AmfRefusal). StayDistinct n.amf r) step (subscribers_stay_distinct n.amf n.home n.moment rand input);
   supis = subst (λ (r : Result Stepped AmfRefusal). SupisStay n.amf r) step (supis_stay n.amf n.home n.moment rand input);
+  few = subst (λ (r : Result Stepped AmfRefusal). StayFew n.amf r) step (kept_lists_have_two_at_most n.amf n.home n.moment rand input);
 }
 
 -- those that run when the turn goes on are those of the procedures, but for one that expires
@@ -71,6 +76,8 @@ onto_owned n input s t b law =
           ∙ ap (λ (a : AmfState). laws.running_of x a) stays;
       distinct = subst (λ (a : AmfState). AreDistinct a.subscribers) stays (law.distinct b.owned.distinct);
       same = all_timed s.outs next ∙ here ∙ ap (λ (a : AmfState). kept a.subscribers) stays;
+      few = subst (λ (a : AmfState). all_keep_few a.subscribers ≡ true) stays
+          (all_keep s.amf.subscribers (law.few (each_keeps_few n.amf.subscribers b.owned.few)));
     }
 
 onto_by : (n : NetworkState) (rand : List ℕ) (input : AmfInput) (t : Turn) (r : Result Stepped AmfRefusal)
@@ -125,7 +132,7 @@ all_fired_owned rand [] t owned = owned
 all_fired_owned rand (d ∷ ds) t owned = all_fired_owned rand ds (fired rand d t) (fired_by rand d t (is_due d t.network) owned)
 
 told_owned : (moment : ℕ) (n : NetworkState) → HaveOwners n → HaveOwners (told moment n)
-told_owned moment n owned = record { fit = owned.fit; distinct = owned.distinct; same = owned.same }
+told_owned moment n owned = record { fit = owned.fit; distinct = owned.distinct; same = owned.same; few = owned.few }
 
 fired_owned : (rand : List ℕ) (moment : ℕ) (n : NetworkState) → HaveOwners n
     → HaveOwners (all_fired rand (due_list moment n.timers) (begun (told moment n))).network

@@ -1,5 +1,6 @@
 -- Which timers of procedures run at a network (TS 24.501 clause 10.2).
-use Rattle.std.specs.Prelude.{◌≡◌, is_some, ℕ, List, [], ◌∷◌}
+use Rattle.std.specs.Prelude.{◌≡◌, is_some, nat_le, ℕ, Bool, true, List, [], ◌∷◌, length}
+use Rattle.std.specs.List.{list_all}
 use Rattle.nas_timers.specs.Timers as timers
 use Rattle.nas_timers.specs.Timers.{deadline_of}
 use Rattle.nas_timers.specs.declared.timer_id.TimerId.TheVariants.{T3522, T3550, T3560}
@@ -28,9 +29,17 @@ abbrev pub kept : List Subscriber → List (List ℕ)
 kept [] = []
 kept (s ∷ ss) = s.supi ∷ kept ss
 
--- The timer of a procedure runs exactly while that procedure is open, for each SUPI. No SUPI is kept twice, and timers are kept for
--- those that the AMF keeps, in their order.
+-- two 5G-GUTIs at most are kept for each subscriber (TS 24.501 clause 5.5.1.2.4)
+abbrev pub keeps_few : Subscriber → Bool
+keeps_few s = nat_le (length s.kept) 2
+
+abbrev pub all_keep_few : List Subscriber → Bool
+all_keep_few subscribers = list_all keeps_few subscribers
+
+-- The timer of a procedure runs exactly while that procedure is open, for each SUPI. No SUPI is kept twice, timers are kept for those
+-- that the AMF keeps, in their order, and of 5G-GUTIs two at most.
 pub record HaveOwners (n : NetworkState) : Type 0 where
   pub fit : FitProcedures n.amf (running_for n.timers)
   pub distinct : AreDistinct n.amf.subscribers
   pub same : timed n.timers ≡ kept n.amf.subscribers
+  pub few : all_keep_few n.amf.subscribers ≡ true

@@ -1,8 +1,9 @@
 //! The network.
-ghost use Rattle.std.specs.Prelude.{◌≡◌, IfOk, OnErr};
+ghost use Rattle.std.specs.Prelude.{◌≡◌, true, IfOk, OnErr};
 ghost use Rattle.amf_core.specs.Naming.{is_kept_for_another};
 ghost use Rattle.amf_core.specs.State.{view_in};
 ghost use Rattle.nas_network.specs.Network.{Commands, answered, commanded, delivered, dropped};
+ghost use Rattle.nas_network.specs.Owners.{all_keep_few};
 ghost use Rattle.nas_network.specs.State.{first};
 ghost use Rattle.nas_network.specs.Ticks.{ticked};
 
@@ -130,6 +131,13 @@ impl Network {
         ensures { result ≡ view_in supi.now self.now.amf }
     {
         self.parts.view(supi)
+    }
+
+    /// A law of every network: two 5G-GUTIs at most are kept for each subscriber (TS 24.501 clause 5.5.1.2.4). It does nothing.
+    pub fn keeps_few(&self)
+        ensures { all_keep_few self.now.amf.subscribers ≡ true }
+    {
+        let _parts = &self.parts;
     }
 
     /// Whether a 5G-GUTI is kept for another subscriber than the one of this SUPI. It walks over all records.

@@ -5,6 +5,7 @@ use Rattle.nas_elements.specs.declared.guti.Guti.{Guti}
 use Rattle.amf_core.specs.Naming.{is_any, is_guti, is_kept_for_another}
 use Rattle.amf_core.specs.State.{view_in}
 use Rattle.amf_core.specs.declared.view.NetView.{NetView}
+use Rattle.nas_network.specs.Owners.{all_keep_few}
 use Rattle.nas_security.specs.Contexts.{SecurityContext}
 use Rattle.ue_mm.specs.State.{view_of}
 use Rattle.ue_mm.specs.declared.view.UeView.{UeView}
@@ -39,16 +40,17 @@ is_kept net w g = is_any (is_guti g) net.kept && not (is_kept_for_another w.supi
 unfoldable pub guti_agrees : UeView → NetView → WorldState → Bool
 guti_agrees ue net w = when ue.registered then per ue.guti false (is_kept net w) else true
 
--- At most two are kept, and one alone once it is confirmed.
+-- one alone is kept once it is confirmed
 abbrev pub is_alone : NetView → Bool
 is_alone net = when net.completed then length net.kept == 1 else true
 
-abbrev pub kept_fit : NetView → Bool
-kept_fit net = nat_le (length net.kept) 2 && is_alone net
-
 abbrev pub both_agree : UeView → NetView → WorldState → Bool
-both_agree ue net w = keys_agree ue net w && (guti_agrees ue net w && kept_fit net)
+both_agree ue net w = keys_agree ue net w && (guti_agrees ue net w && is_alone net)
 
--- Both ends agree. A handset that is no subscriber isn't registered.
+-- A handset that is no subscriber isn't registered.
+unfoldable pub ends_agree : WorldState → Bool
+ends_agree w = per (at_network w) (not (at_handset w).registered) (λ (net : NetView). both_agree (at_handset w) net w)
+
+-- Both ends agree, and two 5G-GUTIs at most are kept for each subscriber.
 unfoldable pub agree : WorldState → Bool
-agree w = per (at_network w) (not (at_handset w).registered) (λ (net : NetView). both_agree (at_handset w) net w)
+agree w = all_keep_few w.network.amf.subscribers && ends_agree w

@@ -1,7 +1,7 @@
 //! Whether both ends agree on what they share.
 ghost use Rattle.std.specs.Prelude.{◌≡◌, true};
 ghost use Rattle.nas_base.specs.Branches.{per};
-ghost use Rattle.nas_world.specs.Agree.{agree, both_agree, counts_fit, fits, guti_agrees, is_alone, is_kept, kept_fit, key_agrees, keys_agree};
+ghost use Rattle.nas_world.specs.Agree.{agree, both_agree, counts_fit, ends_agree, fits, guti_agrees, is_alone, is_kept, key_agrees, keys_agree};
 ghost use Rattle.nas_world.specs.Taken.{is_same};
 
 use crate::World;
@@ -13,10 +13,20 @@ use ue_mm::UeView;
 impl World {
     /// Whether both ends agree. The network's context in use is one that the handset took into use; where the handset's has the same
     /// ngKSI, it is the same one, and no end expects a count above the one that the other will use next. A registered handset has a
-    /// 5G-GUTI, which is kept for its subscriber and for no other; at most two are kept, and one alone once it is confirmed.
-    #[tactic(auto, unfolding(crate::specs::Agree::agree, nas_base::specs::Branches::per))]
+    /// 5G-GUTI, which is kept for its subscriber and for no other, and one alone once it is confirmed; for each subscriber at most two
+    /// are kept.
+    #[tactic(auto, unfolding(crate::specs::Agree::agree))]
     pub fn agree(&self) -> bool
         ensures { result ≡ agree self.now }
+    {
+        self.network.keeps_few();
+        self.ends_agree()
+    }
+
+    // Both ends agree on what they share.
+    #[tactic(auto, unfolding(crate::specs::Agree::ends_agree, nas_base::specs::Branches::per))]
+    fn ends_agree(&self) -> bool
+        ensures { result ≡ ends_agree self.now }
     {
         let ue = self.handset.view();
         match self.network.view(&self.supi) {
@@ -29,7 +39,7 @@ impl World {
     fn both_agree(&self, ue: &UeView, net: &NetView) -> bool
         ensures { result ≡ both_agree ue.now net.now self.now }
     {
-        self.keys_agree(ue, net) && (self.guti_agrees(ue, net) && kept_fit(net))
+        self.keys_agree(ue, net) && (self.guti_agrees(ue, net) && is_alone(net))
     }
 
     // The keys fit.
@@ -110,14 +120,7 @@ fn counts_fit(own: &Context, net: &Context) -> bool
     net.up <= own.up && own.down <= net.down
 }
 
-// At most two are kept, and one alone once it is confirmed.
-fn kept_fit(net: &NetView) -> bool
-    ensures { result ≡ kept_fit net.now }
-{
-    let kept = &net.kept;
-    kept.items.len() <= 2 && is_alone(net)
-}
-
+// One alone is kept once it is confirmed.
 #[tactic(auto, unfolding(nas_base::specs::Branches::chosen))]
 fn is_alone(net: &NetView) -> bool
     ensures { result ≡ is_alone net.now }
