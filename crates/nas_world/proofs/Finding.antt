@@ -1,9 +1,9 @@
 -- An index of the contexts that were taken into use finds what the list has.
-use Rattle.std.proofs.Common.{◌≡◌, ℕ, Bool, true, false, cond, ◌||◌, ◌&&◌, ◌==◌, List, [], ◌∷◌, ◌++◌, refl, sym, ◌∙◌}
+use Rattle.std.proofs.Common.{◌≡◌, Bool, true, false, cond, ◌||◌, ◌&&◌, ◌==◌, List, [], ◌∷◌, ◌++◌, refl, sym, ◌∙◌}
 use Rattle.std.specs.List.{list_any}
 use Rattle.std.specs.Str.{bytes_eq}
 use Rattle.std.proofs.lemmas.List.Folds.{list_any-append}
-use Rattle.indexmap.specs.IndexSet.{IndexSet, contains, IsEmpty, IsUnchanged, Updates}
+use Rattle.indexmap.specs.IndexSet.{IndexSet, IsEmpty, IsUnchanged, Updates}
 use Rattle.nas_security.specs.Contexts.{SecurityContext}
 use Rattle.nas_world.specs.Taken.{Finds, is_same, taken_key, was_taken}
 use Rattle.nas_world.specs.declared.taken.TakenKey.{TakenKey}

@@ -1,5 +1,5 @@
 -- Whether both ends agree on what they share.
-use Rattle.std.specs.Prelude.{ℕ, Bool, true, false, not, nat_le, ◌==◌, ◌&&◌, List, length, Option}
+use Rattle.std.specs.Prelude.{Bool, true, false, not, nat_le, ◌==◌, ◌&&◌, List, length, Option}
 use Rattle.nas_base.specs.Branches.{per, when◌then◌else◌}
 use Rattle.nas_elements.specs.declared.guti.Guti.{Guti}
 use Rattle.amf_core.specs.Naming.{is_any, is_guti, is_kept_for_another}

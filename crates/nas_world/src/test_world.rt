@@ -25,7 +25,7 @@ const OPC: [u8; 16] = [
     0xcd, 0x63, 0xcb, 0x71, 0x95, 0x4a, 0x9f, 0x4e, 0x48, 0xa5, 0x99, 0x4e, 0x37, 0xa0, 0x2b, 0xaf,
 ];
 
-/// The sequence number of the last challenge, as in TS 35.207 and one below the runs' first challenge.
+/// The last sequence number of both ends, one below that of the runs' first challenge (set 1 of TS 35.208 clause 4.3).
 pub const SQN: u64 = 0xff9b_b4d0_b606;
 
 /// A registration that loses nothing.
