@@ -1,4 +1,4 @@
-//! Scripts of a handset that the network knows, and their transcripts. Another program computed them from the standards.
+//! Scripts of a handset that the network knows, and their transcripts, on which two executable models agree.
 
 /// The standard configuration, but for the last sequence number of the handset.
 pub const KNOWN: &str = "[network]
