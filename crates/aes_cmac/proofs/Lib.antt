@@ -1,9 +1,9 @@
+pub mod AlgorithmLaws
 pub mod AllOctets
 pub mod BlockLemmas
 pub mod CmacLemmas
 pub mod CtrLemmas
-pub mod FieldLaws
 pub mod HeadLemmas
-pub mod Laws
 pub mod RoundLemmas
+pub mod SubstitutionLaws
 pub mod Vectors

@@ -4,3 +4,5 @@ pub mod Cmac
 pub mod Ctr
 pub mod Field
 pub mod Nas
+pub mod Published
+pub mod Substitution

@@ -10,6 +10,7 @@ mod blocks;
 mod cipher;
 mod counter;
 mod field;
+pub mod laws;
 mod mac;
 mod rounds;
 mod schedule;
@@ -20,6 +21,3 @@ pub use crate::algorithms::{nea2, nia2};
 pub use crate::cipher::encrypt_block;
 pub use crate::counter::ctr_apply;
 pub use crate::mac::cmac;
-
-#[cfg(test)]
-mod tests;

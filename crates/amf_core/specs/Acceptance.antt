@@ -2,12 +2,13 @@
 use Rattle.std.specs.Prelude.{ℕ, ◌^◌, Bool, true, false, ◌==◌, ◌&&◌, nat_lt, List, [], ◌∷◌, Option, Some}
 use Rattle.std.specs.Str.{bytes_eq}
 use Rattle.nas_base.specs.Branches.{per, when◌then◌else◌}
+use Rattle.nas_base.specs.declared.mm_cause.TheConstants as cause
 use Rattle.nas_elements.specs.Status.{both, no_session}
 use Rattle.nas_elements.specs.declared.guti.Guti.{Guti}
 use Rattle.nas_security.specs.Contexts.{SecurityContext}
 use Rattle.nas_security.specs.declared.challenges.Challenge.{Challenge}
 use Rattle.nas_timers.specs.declared.timer_id.TimerId.TheVariants.{T3550}
-use Rattle.mm_messages.specs.declared.message.Mm.TheVariants.{RegistrationReject}
+use Rattle.mm_messages.specs.declared.message.Mm.TheVariants as mm
 use Rattle.mm_messages.specs.declared.registration.RegistrationType.{RegistrationType}
 use Rattle.mm_messages.specs.declared.registration.RegistrationType.TheVariants.{Initial, Mobility, Periodic, Emergency}
 use Rattle.amf_core.specs.Challenges.{ended}
@@ -74,10 +75,11 @@ offered number r q challenge s w =
     let a : Accepting = record { request = r; guti = new_guti (config_of w) (tmsi_of w); status = told_sessions q s; sendings = 1 } in
     acceptance_put number a (opened_acceptance a q.guti challenge s) (tmsi_taken w)
 
--- The registration goes on under the context that has just been taken into use. Where no 5G-TMSI is left it is rejected (111).
+-- The registration goes on under the context that has just been taken into use. Where no 5G-TMSI is left it is rejected.
 abbrev pub registration_granted : ℕ → Request → Whole → Challenge → Subscriber → Work → Work
 registration_granted number r q challenge s w =
-    when nat_lt (tmsi_of w) (2 ^ 32) then offered number r q challenge s w else answer_for s number (RegistrationReject 111) w
+    when nat_lt (tmsi_of w) (2 ^ 32) then offered number r q challenge s w
+    else answer_for s number (mm.RegistrationReject (record { cause = cause.PROTOCOL_ERROR_UNSPECIFIED })) w
 
 unfoldable pub registration_goes_on : ℕ → Request → Whole → SecurityContext → Subscriber → Work → Work
 registration_goes_on number r q context s w = registration_granted number r q context.challenge s (released q s w)

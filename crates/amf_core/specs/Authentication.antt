@@ -2,10 +2,13 @@
 use Rattle.std.specs.Prelude.{ℕ, Bool, false, ◌==◌, ◌||◌, List, Option, Some, None}
 use Rattle.std.specs.Str.{bytes_eq}
 use Rattle.nas_base.specs.Branches.{per, when◌then◌else◌}
+use Rattle.nas_base.specs.declared.mm_cause.TheConstants as cause
 use Rattle.key_chain.specs.Keys.{nas_keys}
 use Rattle.milenage.specs.Home.{resync_of, resynced}
 use Rattle.nas_security.specs.Contexts.{SecurityContext}
-use Rattle.mm_messages.specs.declared.message.Mm.TheVariants.{AuthenticationReject}
+use Rattle.mm_messages.specs.declared.authentication.AuthenticationFailure.{AuthenticationFailure}
+use Rattle.mm_messages.specs.declared.authentication.AuthenticationResponse.{AuthenticationResponse}
+use Rattle.mm_messages.specs.declared.message.Mm.TheVariants as mm
 use Rattle.amf_core.specs.Challenges.{challenge, challenge_open, challenge_put, ended}
 use Rattle.amf_core.specs.Drafts.{is_right}
 use Rattle.amf_core.specs.Registration.{is_on}
@@ -53,18 +56,18 @@ abbrev pub mode_commanded : Asking → Subscriber → Work → Work
 mode_commanded o s w = challenge_put (commanding o) (challenge_open (commanding o) s) w
 
 abbrev pub authentication_rejected : ℕ → Subscriber → Work → Work
-authentication_rejected number s w = answer_for s number AuthenticationReject (ended s w)
+authentication_rejected number s w = answer_for s number mm.AuthenticationReject (ended s w)
 
 abbrev pub is_expected : Option (List ℕ) → AuthenticationValues → Bool
 is_expected res_star a = per res_star false (λ (octets : List ℕ). bytes_eq octets a.res_star)
 
 -- AUTHENTICATION RESPONSE
-abbrev pub answered : ℕ → Option (List ℕ) → Asking → Subscriber → Work → Work
-answered number res_star o s w =
-    when is_expected res_star o.auth then mode_commanded o s w else authentication_rejected number s w
+abbrev pub answered : AuthenticationResponse → ℕ → Asking → Subscriber → Work → Work
+answered m number o s w =
+    when is_expected m.res_star o.auth then mode_commanded o s w else authentication_rejected number s w
 
-unfoldable pub responded : ℕ → Option (List ℕ) → Subscriber → Work → Work
-responded number res_star s w = per (asking_on number s.procedure) w (λ (o : Asking). answered number res_star o s w)
+unfoldable pub responded : AuthenticationResponse → ℕ → Subscriber → Work → Work
+responded m number s w = per (asking_on number s.procedure) w (λ (o : Asking). answered m number o s w)
 
 -- A challenge takes the place of another, for the same purpose: for a registration on the same link, for a command on the link that the
 -- subscriber has by now.
@@ -82,15 +85,14 @@ resynchronised auts o s w =
     when is_right (resync_of s.supi rand auts (home_of w))
     then challenged_again o.challenging s (put_home (resynced s.supi rand auts (home_of w)) w) else w
 
--- MAC failure (20) and non-5G authentication unacceptable (26) end the challenge; synch failure (21) and ngKSI already in use (71) are
--- followed by another
-abbrev pub failed_by : ℕ → Option (List ℕ) → ℕ → Asking → Subscriber → Work → Work
-failed_by cause auts number o s w =
-    when cause == 20 || cause == 26 then authentication_rejected number s w
-    else (when cause == 21 then per auts w (λ (octets : List ℕ). resynchronised octets o s w)
-    else (when cause == 71 then challenged_again o.challenging s w else w))
+-- MAC failure and non-5G authentication unacceptable end the challenge; synch failure and ngKSI already in use are followed by another
+abbrev pub failed_by : AuthenticationFailure → ℕ → Asking → Subscriber → Work → Work
+failed_by m number o s w =
+    when m.cause == cause.MAC_FAILURE || m.cause == cause.NON_5G_AUTHENTICATION_UNACCEPTABLE then authentication_rejected number s w
+    else (when m.cause == cause.SYNCH_FAILURE then per m.auts w (λ (auts : List ℕ). resynchronised auts o s w)
+    else (when m.cause == cause.NGKSI_ALREADY_IN_USE then challenged_again o.challenging s w else w))
 
 -- AUTHENTICATION FAILURE
-unfoldable pub authentication_failed : ℕ → ℕ → Option (List ℕ) → Subscriber → Work → Work
-authentication_failed number cause auts s w =
-    per (asking_on number s.procedure) w (λ (o : Asking). failed_by cause auts number o s w)
+unfoldable pub authentication_failed : AuthenticationFailure → ℕ → Subscriber → Work → Work
+authentication_failed m number s w =
+    per (asking_on number s.procedure) w (λ (o : Asking). failed_by m number o s w)

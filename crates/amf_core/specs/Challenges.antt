@@ -1,14 +1,18 @@
 -- Challenges: how one starts, what is sent of it, and how a procedure ends (TS 24.501 clauses 5.4.1.3 and 5.4.2, TS 33.501 clause 6.1.3.2).
 use Rattle.std.specs.Prelude.{ℕ, ◌<◌, ◌^◌, Bool, false, not, ◌==◌, ◌&&◌, ◌||◌, List, [], ◌∷◌, take, Option, Some, None, Result, Ok, Err, if◌then◌else◌}
 use Rattle.nas_base.specs.Branches.{per}
+use Rattle.nas_base.specs.declared.mm_cause.TheConstants as cause
 use Rattle.key_chain.specs.Keys.{kamf, kausf, kseaf, res_star}
 use Rattle.milenage.specs.Home.{challenge_of, challenged}
 use Rattle.milenage.specs.declared.home.HomeRefusal.{HomeRefusal}
 use Rattle.milenage.specs.declared.vector.Vector.{Vector}
 use Rattle.nas_elements.specs.Capability.{has_ea}
 use Rattle.nas_elements.specs.declared.asi.Asi.{Asi}
+use Rattle.nas_security.specs.Contexts.{SecurityContext}
 use Rattle.nas_timers.specs.declared.timer_id.TimerId.TheVariants.{T3522, T3550, T3560}
-use Rattle.mm_messages.specs.declared.message.Mm.TheVariants.{AuthenticationRequest, SecurityModeCommand}
+use Rattle.mm_messages.specs.declared.authentication.AuthenticationRequest.{AuthenticationRequest}
+use Rattle.mm_messages.specs.declared.message.Mm.TheVariants as mm
+use Rattle.mm_messages.specs.declared.security_mode.SecurityModeCommand.{SecurityModeCommand}
 use Rattle.amf_core.specs.declared.config.Configured.{Configured}
 use Rattle.amf_core.specs.Work.{by_link, config_of, home_of, link_of, put, put_home, put_link, reject, say, say_on, start, stop}
 use Rattle.amf_core.specs.declared.acts.Protection.TheVariants.{IntegrityProtectedWithNewContext}
@@ -83,15 +87,21 @@ abbrev pub asked_for : Purpose → Option Asi
 asked_for (Registration request) = Some (record { 0 = 2 })
 asked_for Command = None
 
+abbrev pub authentication_request : AuthenticationValues → AuthenticationRequest
+authentication_request a = record { ksi = a.ksi; abba = abba; rand = Some a.challenge.rand; autn = Some a.autn }
+
 abbrev pub request_sent : AuthenticationValues → ℕ → Subscriber → Work → Work
 request_sent a number s w =
-    say number (by_link (link_of number w) s.supi) (AuthenticationRequest a.ksi abba (Some a.challenge.rand) (Some a.autn)) w
+    say number (by_link (link_of number w) s.supi) (mm.AuthenticationRequest (authentication_request a)) w
+
+abbrev pub security_mode_command : SecurityContext → Challenging → Subscriber → SecurityModeCommand
+security_mode_command context c s =
+    record { algs = context.algs; ksi = context.ksi; capability = capability_of s; asi = asked_for c.purpose }
 
 abbrev pub phase_sent : Phase → Challenging → Subscriber → Work → Work
 phase_sent (Auth a) c s w = per c.link w (λ (number : ℕ). request_sent a number s w)
 phase_sent (Mode context) c s w =
-    say_on c.link (IntegrityProtectedWithNewContext s.supi)
-    (SecurityModeCommand context.algs context.ksi (capability_of s) (asked_for c.purpose)) w
+    say_on c.link (IntegrityProtectedWithNewContext s.supi) (mm.SecurityModeCommand (security_mode_command context c s)) w
 
 unfoldable pub challenge_sent : Challenging → Subscriber → Work → Work
 challenge_sent c s w = phase_sent c.phase c s w
@@ -118,9 +128,9 @@ begun_with a purpose link s w =
 unfoldable pub challenge_begun : Purpose → Option ℕ → Vector → Subscriber → Work → Work
 challenge_begun purpose link v s w = begun_with (authentication (config_of w) v s) purpose link s w
 
--- Where no sequence number is left, none is open. A registration is then rejected (111, protocol error).
+-- Where no sequence number is left, none is open. A registration is then rejected.
 abbrev pub challenge_refused : Purpose → Option ℕ → Work → Work
-challenge_refused (Registration request) link w = per link w (λ (number : ℕ). reject number 111 w)
+challenge_refused (Registration request) link w = per link w (λ (number : ℕ). reject number cause.PROTOCOL_ERROR_UNSPECIFIED w)
 challenge_refused Command link w = w
 
 -- the capability that a registration tells, where it tells one

@@ -2,6 +2,7 @@
 use Rattle.std.specs.Prelude.{ℕ, Bool, false, not, ◌==◌, ◌||◌, ◌%◌, List, length, drop, slice_index_or, nat_lt, Option, Some, None, Result, Ok, Err}
 use Rattle.nas_base.specs.Branches.{per, when◌then◌else◌}
 use Rattle.nas_base.specs.Kinds.{mm_kind}
+use Rattle.nas_base.specs.declared.mm_cause.TheConstants as cause
 use Rattle.collision_rules.specs.Mm.{collide_amf}
 use Rattle.collision_rules.specs.Plain.{permitted_amf}
 use Rattle.collision_rules.specs.declared.action.Action.{Action}
@@ -9,7 +10,7 @@ use Rattle.collision_rules.specs.declared.action.Action.TheVariants.{Take, Disca
 use Rattle.mm_messages.specs.KindOf.{kind_of}
 use Rattle.mm_messages.specs.Messages.{mm_in}
 use Rattle.mm_messages.specs.declared.message.Mm.{Mm}
-use Rattle.mm_messages.specs.declared.message.Mm.TheVariants.{RegistrationRequest, RegistrationAccept, RegistrationComplete, RegistrationReject, DeregistrationRequestUeOriginating, DeregistrationAcceptUeOriginating, DeregistrationRequestUeTerminated, DeregistrationAcceptUeTerminated, ServiceRequest, ServiceReject, ServiceAccept, ConfigurationUpdateCommand, ConfigurationUpdateComplete, AuthenticationRequest, AuthenticationResponse, AuthenticationReject, AuthenticationFailure, IdentityRequest, IdentityResponse, SecurityModeCommand, SecurityModeComplete, SecurityModeReject, FiveGmmStatus, UlNasTransport, DlNasTransport}
+use Rattle.mm_messages.specs.declared.message.Mm.TheVariants as mm
 use Rattle.mm_messages.specs.declared.message.MmRefusal.{MmRefusal}
 use Rattle.mm_messages.specs.declared.message.MmRefusal.TheVariants as refusals
 use Rattle.amf_core.specs.Acceptance.{registration_completed}
@@ -30,35 +31,33 @@ use Rattle.amf_core.specs.declared.work.Work.{Work}
 
 -- The row of each message that passed and that the table of collisions takes.
 unfoldable pub taken : ℕ → Check → Mm → Work → Work
-taken number c (RegistrationRequest registration ksi identity capability told) w =
-    registration_requested number (Some c.subscriber.supi) registration ksi identity capability told w
-taken number c RegistrationComplete w = registration_completed c.challenge c.subscriber w
-taken number c (DeregistrationRequestUeOriginating switch_off ksi identity) w = deregistration_requested number switch_off c.subscriber w
-taken number c DeregistrationAcceptUeTerminated w = deregistration_accepted number c.subscriber w
-taken number c (ServiceRequest ksi service_type identity told) w = service_requested number c.subscriber w
-taken number c (AuthenticationResponse res_star) w = responded number res_star c.subscriber w
-taken number c (AuthenticationFailure cause auts) w = authentication_failed number cause auts c.subscriber w
-taken number c (IdentityResponse identity) w = identity_told number identity w
-taken number c (SecurityModeComplete message) w = when c.is_pending then mode_completed number message c.subscriber w else w
-taken number c (SecurityModeReject cause) w = mode_rejected number c.subscriber w
-taken number c (UlNasTransport container_type container psi request_type slice dnn) w =
-    transported number c.challenge container_type container psi slice dnn c.subscriber w
-taken number c (RegistrationAccept result guti tai_list nssai told t3512) w = w
-taken number c (RegistrationReject cause) w = w
-taken number c DeregistrationAcceptUeOriginating w = w
-taken number c (DeregistrationRequestUeTerminated switch_off cause) w = w
-taken number c (ServiceReject cause told) w = w
-taken number c (ServiceAccept told) w = w
-taken number c (ConfigurationUpdateCommand indication guti) w = w
-taken number c ConfigurationUpdateComplete w = w
-taken number c (AuthenticationRequest ksi abba rand autn) w = w
-taken number c AuthenticationReject w = w
-taken number c (IdentityRequest identity_type) w = w
-taken number c (SecurityModeCommand algs ksi capability information) w = w
-taken number c (FiveGmmStatus cause) w = w
-taken number c (DlNasTransport container_type container psi cause) w = w
+taken number c (mm.RegistrationRequest m) w = registration_requested m number (Some c.subscriber.supi) w
+taken number c mm.RegistrationComplete w = registration_completed c.challenge c.subscriber w
+taken number c (mm.DeregistrationRequestUeOriginating m) w = deregistration_requested m number c.subscriber w
+taken number c mm.DeregistrationAcceptUeTerminated w = deregistration_accepted number c.subscriber w
+taken number c (mm.ServiceRequest m) w = service_requested number c.subscriber w
+taken number c (mm.AuthenticationResponse m) w = responded m number c.subscriber w
+taken number c (mm.AuthenticationFailure m) w = authentication_failed m number c.subscriber w
+taken number c (mm.IdentityResponse m) w = identity_told m number w
+taken number c (mm.SecurityModeComplete m) w = when c.is_pending then mode_completed m number c.subscriber w else w
+taken number c (mm.SecurityModeReject m) w = mode_rejected number c.subscriber w
+taken number c (mm.UlNasTransport m) w = transported m number c.challenge c.subscriber w
+taken number c (mm.RegistrationAccept m) w = w
+taken number c (mm.RegistrationReject m) w = w
+taken number c mm.DeregistrationAcceptUeOriginating w = w
+taken number c (mm.DeregistrationRequestUeTerminated m) w = w
+taken number c (mm.ServiceReject m) w = w
+taken number c (mm.ServiceAccept m) w = w
+taken number c (mm.ConfigurationUpdateCommand m) w = w
+taken number c mm.ConfigurationUpdateComplete w = w
+taken number c (mm.AuthenticationRequest m) w = w
+taken number c mm.AuthenticationReject w = w
+taken number c (mm.IdentityRequest m) w = w
+taken number c (mm.SecurityModeCommand m) w = w
+taken number c (mm.FiveGmmStatus m) w = w
+taken number c (mm.DlNasTransport m) w = w
 
--- STATUS 97 and 96 answer a type that isn't known, and a mandatory part that is cut or wrong; 5GMM STATUS is never answered
+-- STATUS answers a type that isn't known, and a mandatory part that is cut or wrong; 5GMM STATUS is never answered
 -- (clauses 7.4 and 7.5.1)
 abbrev pub five_gmm_status : ℕ
 five_gmm_status = 0x64
@@ -68,7 +67,7 @@ type_of octets = slice_index_or octets 2 0
 
 abbrev pub by_table : Action → ℕ → Check → Mm → Work → Work
 by_table Take number c message w = taken number c message w
-by_table Status98 number c message w = status number 98 w
+by_table Status98 number c message w = status number cause.MESSAGE_TYPE_NOT_COMPATIBLE_WITH_THE_PROTOCOL_STATE w
 by_table Discard number c message w = w
 by_table Status43 number c message w = w
 by_table Status47 number c message w = w
@@ -77,12 +76,13 @@ abbrev pub action : Mm → Subscriber → Action
 action message s = collide_amf (word_of s) s.registered (kind_of message)
 
 abbrev pub faulty : ℕ → List ℕ → Work → Work
-faulty number octets w = when type_of octets == five_gmm_status then w else status number 96 w
+faulty number octets w =
+    when type_of octets == five_gmm_status then w else status number cause.INVALID_MANDATORY_INFORMATION w
 
 abbrev pub passed_read : Result Mm MmRefusal → List ℕ → ℕ → Check → Work → Work
 passed_read (Ok message) octets number c w = by_table (action message c.subscriber) number c message w
 passed_read (Err (refusals.Ignored at)) octets number c w = w
-passed_read (Err (refusals.UnknownType n)) octets number c w = status number 97 w
+passed_read (Err (refusals.UnknownType n)) octets number c w = status number cause.MESSAGE_TYPE_NON_EXISTENT_OR_NOT_IMPLEMENTED w
 passed_read (Err (refusals.Mandatory n at)) octets number c w = faulty number octets w
 passed_read (Err refusals.Memory) octets number c w = w
 
@@ -98,32 +98,31 @@ abbrev pub of_link : ℕ → (Subscriber → Work → Work) → Work → Work
 of_link number row w = per (subscriber_of_link number w) w (λ (s : Subscriber). row s w)
 
 unfoldable pub taken_plain : ℕ → Mm → Work → Work
-taken_plain number (RegistrationRequest registration ksi identity capability told) w =
-    registration_requested number None registration ksi identity capability told w
-taken_plain number (ServiceRequest ksi service_type identity told) w = service_refused number w
-taken_plain number (IdentityResponse identity) w = identity_told number identity w
-taken_plain number (AuthenticationResponse res_star) w = of_link number (responded number res_star) w
-taken_plain number (AuthenticationFailure cause auts) w = of_link number (authentication_failed number cause auts) w
-taken_plain number (SecurityModeReject cause) w = of_link number (mode_rejected number) w
-taken_plain number DeregistrationAcceptUeTerminated w = of_link number (deregistration_accepted number) w
-taken_plain number RegistrationComplete w = w
-taken_plain number (DeregistrationRequestUeOriginating switch_off ksi identity) w = w
-taken_plain number (SecurityModeComplete message) w = w
-taken_plain number (UlNasTransport container_type container psi request_type slice dnn) w = w
-taken_plain number (RegistrationAccept result guti tai_list nssai told t3512) w = w
-taken_plain number (RegistrationReject cause) w = w
-taken_plain number DeregistrationAcceptUeOriginating w = w
-taken_plain number (DeregistrationRequestUeTerminated switch_off cause) w = w
-taken_plain number (ServiceReject cause told) w = w
-taken_plain number (ServiceAccept told) w = w
-taken_plain number (ConfigurationUpdateCommand indication guti) w = w
-taken_plain number ConfigurationUpdateComplete w = w
-taken_plain number (AuthenticationRequest ksi abba rand autn) w = w
-taken_plain number AuthenticationReject w = w
-taken_plain number (IdentityRequest identity_type) w = w
-taken_plain number (SecurityModeCommand algs ksi capability information) w = w
-taken_plain number (FiveGmmStatus cause) w = w
-taken_plain number (DlNasTransport container_type container psi cause) w = w
+taken_plain number (mm.RegistrationRequest m) w = registration_requested m number None w
+taken_plain number (mm.ServiceRequest m) w = service_refused number w
+taken_plain number (mm.IdentityResponse m) w = identity_told m number w
+taken_plain number (mm.AuthenticationResponse m) w = of_link number (responded m number) w
+taken_plain number (mm.AuthenticationFailure m) w = of_link number (authentication_failed m number) w
+taken_plain number (mm.SecurityModeReject m) w = of_link number (mode_rejected number) w
+taken_plain number mm.DeregistrationAcceptUeTerminated w = of_link number (deregistration_accepted number) w
+taken_plain number mm.RegistrationComplete w = w
+taken_plain number (mm.DeregistrationRequestUeOriginating m) w = w
+taken_plain number (mm.SecurityModeComplete m) w = w
+taken_plain number (mm.UlNasTransport m) w = w
+taken_plain number (mm.RegistrationAccept m) w = w
+taken_plain number (mm.RegistrationReject m) w = w
+taken_plain number mm.DeregistrationAcceptUeOriginating w = w
+taken_plain number (mm.DeregistrationRequestUeTerminated m) w = w
+taken_plain number (mm.ServiceReject m) w = w
+taken_plain number (mm.ServiceAccept m) w = w
+taken_plain number (mm.ConfigurationUpdateCommand m) w = w
+taken_plain number mm.ConfigurationUpdateComplete w = w
+taken_plain number (mm.AuthenticationRequest m) w = w
+taken_plain number mm.AuthenticationReject w = w
+taken_plain number (mm.IdentityRequest m) w = w
+taken_plain number (mm.SecurityModeCommand m) w = w
+taken_plain number (mm.FiveGmmStatus m) w = w
+taken_plain number (mm.DlNasTransport m) w = w
 
 abbrev pub is_permitted_type : ℕ → Bool
 is_permitted_type code = per (mm_kind code) false permitted_amf
@@ -131,8 +130,9 @@ is_permitted_type code = per (mm_kind code) false permitted_amf
 abbrev pub plain_read : Result Mm MmRefusal → ℕ → List ℕ → Work → Work
 plain_read (Ok message) number octets w = when permitted_amf (kind_of message) then taken_plain number message w else w
 plain_read (Err (refusals.Ignored at)) number octets w = w
-plain_read (Err (refusals.UnknownType n)) number octets w = status number 97 w
-plain_read (Err (refusals.Mandatory n at)) number octets w = when is_permitted_type (type_of octets) then status number 96 w else w
+plain_read (Err (refusals.UnknownType n)) number octets w = status number cause.MESSAGE_TYPE_NON_EXISTENT_OR_NOT_IMPLEMENTED w
+plain_read (Err (refusals.Mandatory n at)) number octets w =
+    when is_permitted_type (type_of octets) then status number cause.INVALID_MANDATORY_INFORMATION w else w
 plain_read (Err refusals.Memory) number octets w = w
 
 unfoldable pub plain : ℕ → List ℕ → Work → Work
@@ -145,9 +145,9 @@ message_of (Ok message) = Some message
 message_of (Err refusal) = None
 
 abbrev pub named_inside : Option Mm → Work → Option Subscriber
-named_inside (Some (RegistrationRequest registration ksi identity capability told)) w = kept_for identity w
-named_inside (Some (ServiceRequest ksi service_type identity told)) w = kept_for identity w
-named_inside (Some (DeregistrationRequestUeOriginating switch_off ksi identity)) w = kept_for identity w
+named_inside (Some (mm.RegistrationRequest m)) w = kept_for m.identity w
+named_inside (Some (mm.ServiceRequest m)) w = kept_for m.identity w
+named_inside (Some (mm.DeregistrationRequestUeOriginating m)) w = kept_for m.identity w
 named_inside message w = None
 
 abbrev pub sender : ℕ → Option Mm → Work → Option Subscriber
@@ -156,9 +156,8 @@ sender number message w = per (named_inside message w) (subscriber_of_link numbe
 -- One that fails is discarded on a secure link. On any other a REGISTRATION REQUEST inside is taken as one that didn't pass, and a SERVICE
 -- REQUEST is rejected.
 abbrev pub failed_request : ℕ → Mm → Work → Work
-failed_request number (RegistrationRequest registration ksi identity capability told) w =
-    registration_requested number None registration ksi identity capability told w
-failed_request number (ServiceRequest ksi service_type identity told) w = service_refused number w
+failed_request number (mm.RegistrationRequest m) w = registration_requested m number None w
+failed_request number (mm.ServiceRequest m) w = service_refused number w
 failed_request number message w = w
 
 abbrev pub failed : ℕ → Option Mm → Work → Work

@@ -2,7 +2,8 @@
 use Rattle.std.specs.Prelude.{ℕ, Bool, true, false, ◌&&◌, None}
 use Rattle.nas_base.specs.Branches.{when◌then◌else◌}
 use Rattle.nas_timers.specs.declared.timer_id.TimerId.TheVariants.{T3522}
-use Rattle.mm_messages.specs.declared.message.Mm.TheVariants.{DeregistrationAcceptUeOriginating, DeregistrationRequestUeTerminated}
+use Rattle.mm_messages.specs.declared.deregistration.DeregistrationRequestUeOriginating.{DeregistrationRequestUeOriginating}
+use Rattle.mm_messages.specs.declared.message.Mm.TheVariants as mm
 use Rattle.amf_core.specs.Challenges.{stopped}
 use Rattle.amf_core.specs.Registration.{is_on}
 use Rattle.amf_core.specs.Work.{ask, put, say, say_on, start}
@@ -22,10 +23,10 @@ unfoldable pub deregistered : Subscriber → Work → Work
 deregistered s w = ask ReleaseAll s (put (unregistered s) (stopped s w))
 
 -- DEREGISTRATION REQUEST of the handset, which passed; it is answered unless the handset is switched off
-unfoldable pub deregistration_requested : ℕ → Bool → Subscriber → Work → Work
-deregistration_requested number switch_off s w =
-    when switch_off then deregistered s w
-    else say number (Ciphered s.supi) DeregistrationAcceptUeOriginating (deregistered s w)
+unfoldable pub deregistration_requested : DeregistrationRequestUeOriginating → ℕ → Subscriber → Work → Work
+deregistration_requested m number s w =
+    when m.switch_off then deregistered s w
+    else say number (Ciphered s.supi) mm.DeregistrationAcceptUeOriginating (deregistered s w)
 
 -- DEREGISTRATION ACCEPT of the handset, on the subscriber's link, while the network waits for it
 abbrev pub is_deregistering : Procedure → Bool
@@ -39,7 +40,8 @@ deregistration_accepted number s w = when is_deregistering s.procedure && is_on 
 
 -- DEREGISTRATION REQUEST of the network, without switch off and without a cause
 abbrev pub deregistration_sent : Subscriber → Work → Work
-deregistration_sent s w = say_on s.link (Ciphered s.supi) (DeregistrationRequestUeTerminated false None) w
+deregistration_sent s w =
+    say_on s.link (Ciphered s.supi) (mm.DeregistrationRequestUeTerminated (record { switch_off = false; cause = None })) w
 
 abbrev pub deregistration_put : Deregistering → Subscriber → Work → Work
 deregistration_put d s w =

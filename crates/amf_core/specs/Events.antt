@@ -2,7 +2,7 @@
 use Rattle.std.specs.Prelude.{ℕ, ◌+◌, Bool, false, nat_lt, List, Option, None}
 use Rattle.nas_base.specs.Branches.{per, when◌then◌else◌}
 use Rattle.nas_timers.specs.declared.timer_id.TimerId.{TimerId}
-use Rattle.nas_timers.specs.declared.timer_id.TimerId.TheVariants.{T3510, T3516, T3517, T3521, T3522, T3550, T3560, T3580, T3581, T3582, T3591, T3592}
+use Rattle.nas_timers.specs.declared.timer_id.TimerId.TheVariants.{T3510, T3516, T3517, T3521, T3522, T3550, T3555, T3560, T3580, T3581, T3582, T3591, T3592}
 use Rattle.amf_core.specs.Challenges.{challenge, challenge_open, challenge_put, ended, idle}
 use Rattle.amf_core.specs.Commands.{is_idle}
 use Rattle.amf_core.specs.Deregistration.{deregistration_put, unregistered}
@@ -79,6 +79,7 @@ expired_of T3510 s w = w
 expired_of T3516 s w = w
 expired_of T3517 s w = w
 expired_of T3521 s w = w
+expired_of T3555 s w = w
 expired_of (T3580 psi) s w = w
 expired_of (T3581 psi) s w = w
 expired_of (T3582 psi) s w = w

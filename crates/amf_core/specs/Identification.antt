@@ -4,6 +4,7 @@ use Rattle.nas_base.specs.Branches.{per}
 use Rattle.nas_elements.specs.Suci.{SuciParts}
 use Rattle.nas_elements.specs.declared.identity.Identity.{Identity}
 use Rattle.nas_elements.specs.declared.identity.Identity.TheVariants as identities
+use Rattle.mm_messages.specs.declared.identification.IdentityResponse.{IdentityResponse}
 use Rattle.amf_core.specs.Naming.{named_by_suci}
 use Rattle.amf_core.specs.Registration.{request_by_suci}
 use Rattle.amf_core.specs.Work.{link_of, put_link}
@@ -17,8 +18,11 @@ waited number x r w = request_by_suci number None r (named_by_suci x w) (put_lin
 abbrev pub suci_told : ℕ → SuciParts → Work → Work
 suci_told number x w = per (link_of number w).waiting w (λ (r : Request). waited number x r w)
 
-unfoldable pub identity_told : ℕ → Identity → Work → Work
-identity_told number (identities.Suci x) w = suci_told number x w
-identity_told number (identities.Guti g) w = w
-identity_told number (identities.Stmsi t) w = w
-identity_told number (identities.Other octets) w = w
+abbrev pub told_by : Identity → ℕ → Work → Work
+told_by (identities.Suci x) number w = suci_told number x w
+told_by (identities.Guti g) number w = w
+told_by (identities.Stmsi t) number w = w
+told_by (identities.Other octets) number w = w
+
+unfoldable pub identity_told : IdentityResponse → ℕ → Work → Work
+identity_told m number w = told_by m.identity number w

@@ -2,6 +2,7 @@
 use Rattle.std.specs.Prelude.{ℕ, Bool, true, false, ◌==◌, ◌&&◌, ◌||◌, List, Option, Some, None}
 use Rattle.std.specs.Str.{bytes_eq}
 use Rattle.nas_base.specs.Branches.{per, when◌then◌else◌}
+use Rattle.nas_base.specs.declared.mm_cause.TheConstants as cause
 use Rattle.nas_elements.specs.Capability.{has_ea, has_ia}
 use Rattle.nas_elements.specs.TaiList.{one_area}
 use Rattle.nas_elements.specs.declared.guti.Guti.{Guti}
@@ -9,7 +10,8 @@ use Rattle.nas_elements.specs.declared.identity.Identity.{Identity}
 use Rattle.nas_elements.specs.declared.identity.Identity.TheVariants as identities
 use Rattle.nas_elements.specs.declared.slice.Slice.{Slice}
 use Rattle.mm_messages.specs.declared.message.Mm.{Mm}
-use Rattle.mm_messages.specs.declared.message.Mm.TheVariants.{IdentityRequest, RegistrationAccept}
+use Rattle.mm_messages.specs.declared.message.Mm.TheVariants as mm
+use Rattle.mm_messages.specs.declared.registration.RegistrationRequest.{RegistrationRequest}
 use Rattle.mm_messages.specs.declared.registration.RegistrationType.{RegistrationType}
 use Rattle.mm_messages.specs.declared.registration.RegistrationType.TheVariants.{Initial, Mobility, Periodic, Emergency}
 use Rattle.amf_core.specs.Challenges.{challenge}
@@ -19,11 +21,11 @@ use Rattle.amf_core.specs.Requests.{is_same}
 use Rattle.amf_core.specs.Work.{answer, config_of, link_of, put_link, reject, say}
 use Rattle.amf_core.specs.declared.acts.Protection.TheVariants.{Ciphered}
 use Rattle.amf_core.specs.declared.procedures.Accepting.{Accepting}
-use Rattle.amf_core.specs.declared.procedures.Challenging.{Challenging}
 use Rattle.amf_core.specs.declared.procedures.Procedure.{Procedure}
 use Rattle.amf_core.specs.declared.procedures.Procedure.TheVariants as procedures
 use Rattle.amf_core.specs.declared.procedures.Purpose.{Purpose}
 use Rattle.amf_core.specs.declared.procedures.Purpose.TheVariants.{Registration, Command}
+use Rattle.amf_core.specs.declared.requests.Named.{Named}
 use Rattle.amf_core.specs.declared.requests.Named.TheVariants as named
 use Rattle.amf_core.specs.declared.requests.Request.{Request}
 use Rattle.amf_core.specs.declared.subscriber.Subscriber.{Subscriber}
@@ -58,11 +60,20 @@ equal_acceptance r procedures.Idle = None
 equal_acceptance r (procedures.Challenging c) = None
 equal_acceptance r (procedures.Deregistering d) = None
 
--- REGISTRATION ACCEPT: result 3GPP access (1), the tracking area, the subscribed slices and T3512; of an acceptance the new 5G-GUTI
+-- REGISTRATION ACCEPT: result 3GPP access, the tracking area, the subscribed slices and T3512; of an acceptance the new 5G-GUTI
 -- and the sessions that are told beside them
+abbrev pub three_gpp_access : ℕ
+three_gpp_access = 1
+
 abbrev pub accept : Configured → List Slice → Option Guti → Option (List Bool) → Mm
-accept config slices guti status =
-    RegistrationAccept 1 guti (Some (one_area config.plmn config.tac)) (Some slices) status (Some config.t3512)
+accept config slices guti status = mm.RegistrationAccept (record {
+  result = three_gpp_access;
+  guti = guti;
+  tai_list = Some (one_area config.plmn config.tac);
+  nssai = Some slices;
+  status = status;
+  t3512 = Some config.t3512;
+})
 
 abbrev pub acceptance : Configured → Accepting → Subscriber → Mm
 acceptance config a s = accept config s.slices (Some a.guti) (Some a.status)
@@ -85,43 +96,48 @@ is_granted passed r s =
     is_periodic r.registration && (per passed false (λ (supi : List ℕ). bytes_eq supi s.supi) && s.registered)
 
 -- of a subscriber whose capability is enough, in the order of its cases
-unfoldable pub request_weighed : ℕ → Option (List ℕ) → Request → List ℕ → Subscriber → Work → Work
-request_weighed number passed r capability s w =
+unfoldable pub request_weighed : ℕ → Option (List ℕ) → Request → Subscriber → Work → Work
+request_weighed number passed r s w =
     when is_running number r s.procedure then w
     else per (equal_acceptance r s.procedure)
     (when is_granted passed r s then periodic_accepted number s w
-    else challenge (Registration r) (Some number) (Some capability) s w)
+    else challenge (Registration r) (Some number) (counting_capability r s) s w)
     (λ (a : Accepting). accept_sent a number s w)
 
--- of a subscriber that is known (23, UE security capabilities mismatch)
+-- of a subscriber that is known
+abbrev pub is_capable : Request → Subscriber → Bool
+is_capable r s = per (counting_capability r s) false is_enough
+
 unfoldable pub requested : ℕ → Option (List ℕ) → Request → Subscriber → Work → Work
 requested number passed r s w =
-    per (counting_capability r s) (reject number 23 w) (λ (capability : List ℕ).
-    when is_enough capability then request_weighed number passed r capability s w else reject number 23 w)
+    when is_capable r s then request_weighed number passed r s w else reject number cause.UE_SECURITY_CAPABILITIES_MISMATCH w
 
--- A request that waits for the identity of who sent it (clause 5.4.3): the SUCI is asked for, identity type 1.
+-- A request that waits for the identity of who sent it (clause 5.4.3): the SUCI is asked for.
+abbrev pub suci_type : ℕ
+suci_type = 1
+
 abbrev pub identity_wanted : ℕ → Request → Work → Work
-identity_wanted number r w = answer number (IdentityRequest 1) (put_link (record (link_of number w) { waiting = Some r }) w)
+identity_wanted number r w =
+    answer number (mm.IdentityRequest (record { identity_type = suci_type })) (put_link (record (link_of number w) { waiting = Some r }) w)
 
--- by the identity: a SUCI of no subscriber is rejected (3, illegal UE), one that isn't read or a 5G-S-TMSI (9, UE identity cannot be
--- derived); a 5G-GUTI that isn't kept is asked about
+-- by the identity: a SUCI of no subscriber is rejected, one that isn't read or a 5G-S-TMSI too; a 5G-GUTI that isn't kept is asked about
 abbrev pub request_by_suci : ℕ → Option (List ℕ) → Request → Option Subscriber → Work → Work
-request_by_suci number passed r s w = per s (reject number 3 w) (λ (x : Subscriber). requested number passed r x w)
+request_by_suci number passed r s w = per s (reject number cause.ILLEGAL_UE w) (λ (x : Subscriber). requested number passed r x w)
 
 abbrev pub request_by_guti : ℕ → Option (List ℕ) → Request → Option Subscriber → Work → Work
 request_by_guti number passed r s w = per s (identity_wanted number r w) (λ (x : Subscriber). requested number passed r x w)
 
-abbrev pub request_by_identity : ℕ → Option (List ℕ) → RegistrationType → ℕ → Identity → Option (List ℕ) → Option (List Bool) → Work → Work
-request_by_identity number passed registration ksi (identities.Suci x) capability status w =
-    request_by_suci number passed
-    (record { registration = registration; ksi = ksi; identity = named.Suci x; capability = capability; status = status }) (named_by_suci x w) w
-request_by_identity number passed registration ksi (identities.Guti g) capability status w =
-    request_by_guti number passed
-    (record { registration = registration; ksi = ksi; identity = named.Guti g; capability = capability; status = status }) (keeper g w) w
-request_by_identity number passed registration ksi (identities.Stmsi t) capability status w = reject number 9 w
-request_by_identity number passed registration ksi (identities.Other octets) capability status w = reject number 9 w
+-- what is kept of it, beside who sent it
+abbrev pub kept : RegistrationRequest → Named → Request
+kept m identity = record { registration = m.registration; ksi = m.ksi; identity = identity; capability = m.capability; status = m.status }
 
--- an emergency registration isn't granted (111, protocol error)
+abbrev pub request_by_identity : Identity → RegistrationRequest → ℕ → Option (List ℕ) → Work → Work
+request_by_identity (identities.Suci x) m number passed w = request_by_suci number passed (kept m (named.Suci x)) (named_by_suci x w) w
+request_by_identity (identities.Guti g) m number passed w = request_by_guti number passed (kept m (named.Guti g)) (keeper g w) w
+request_by_identity (identities.Stmsi t) m number passed w = reject number cause.UE_IDENTITY_CANNOT_BE_DERIVED_BY_THE_NETWORK w
+request_by_identity (identities.Other octets) m number passed w = reject number cause.UE_IDENTITY_CANNOT_BE_DERIVED_BY_THE_NETWORK w
+
+-- an emergency registration isn't granted
 abbrev pub is_emergency : RegistrationType → Bool
 is_emergency Emergency = true
 is_emergency Initial = false
@@ -129,7 +145,7 @@ is_emergency Mobility = false
 is_emergency Periodic = false
 
 -- REGISTRATION REQUEST on a link; `passed` is the subscriber under whose context it passed, if it did
-unfoldable pub registration_requested : ℕ → Option (List ℕ) → RegistrationType → ℕ → Identity → Option (List ℕ) → Option (List Bool) → Work → Work
-registration_requested number passed registration ksi identity capability status w =
-    when is_emergency registration then reject number 111 w
-    else request_by_identity number passed registration ksi identity capability status w
+unfoldable pub registration_requested : RegistrationRequest → ℕ → Option (List ℕ) → Work → Work
+registration_requested m number passed w =
+    when is_emergency m.registration then reject number cause.PROTOCOL_ERROR_UNSPECIFIED w
+    else request_by_identity m.identity m number passed w

@@ -1,5 +1,5 @@
 -- The answers to SECURITY MODE COMMAND (TS 24.501 clauses 5.4.2.4 and 5.4.2.5).
-use Rattle.std.specs.Prelude.{ℕ, Bool, List, Option, Some, None, Result, Ok}
+use Rattle.std.specs.Prelude.{ℕ, List, Option, Some, None, Result, Ok}
 use Rattle.std.specs.Str.{bytes_eq}
 use Rattle.nas_base.specs.Branches.{per, when◌then◌else◌}
 use Rattle.nas_elements.specs.declared.guti.Guti.{Guti}
@@ -8,9 +8,10 @@ use Rattle.nas_elements.specs.declared.identity.Identity.TheVariants as identiti
 use Rattle.nas_security.specs.Contexts.{SecurityContext}
 use Rattle.mm_messages.specs.Messages.{mm_in}
 use Rattle.mm_messages.specs.declared.message.Mm.{Mm}
-use Rattle.mm_messages.specs.declared.message.Mm.TheVariants.{RegistrationRequest}
+use Rattle.mm_messages.specs.declared.message.Mm.TheVariants as mm
 use Rattle.mm_messages.specs.declared.message.MmRefusal.{MmRefusal}
-use Rattle.mm_messages.specs.declared.registration.RegistrationType.{RegistrationType}
+use Rattle.mm_messages.specs.declared.registration.RegistrationRequest.{RegistrationRequest}
+use Rattle.mm_messages.specs.declared.security_mode.SecurityModeComplete.{SecurityModeComplete}
 use Rattle.amf_core.specs.Acceptance.{registration_goes_on}
 use Rattle.amf_core.specs.Challenges.{ended, stopped}
 use Rattle.amf_core.specs.Naming.{suci_digits}
@@ -51,15 +52,17 @@ mode_rejected number s w = per (commanding_on number s.procedure) w (λ (o : Com
 
 -- The whole request is taken where it is a REGISTRATION REQUEST that names this subscriber by its SUCI, or any 5G-GUTI. Its kind, its
 -- 5G-GUTI and its sessions are used; what the challenge began with tells the rest.
-abbrev pub whole_by : Identity → RegistrationType → Option (List Bool) → Subscriber → Option Whole
-whole_by (identities.Guti g) registration status s = Some (record { registration = registration; guti = Some g; status = status })
-whole_by (identities.Suci x) registration status s =
-    when bytes_eq s.supi (suci_digits x) then Some (record { registration = registration; guti = None; status = status }) else None
-whole_by (identities.Stmsi t) registration status s = None
-whole_by (identities.Other octets) registration status s = None
+abbrev pub whole_with : Option Guti → RegistrationRequest → Whole
+whole_with guti m = record { registration = m.registration; guti = guti; status = m.status }
+
+abbrev pub whole_by : Identity → RegistrationRequest → Subscriber → Option Whole
+whole_by (identities.Guti g) m s = Some (whole_with (Some g) m)
+whole_by (identities.Suci x) m s = when bytes_eq s.supi (suci_digits x) then Some (whole_with None m) else None
+whole_by (identities.Stmsi t) m s = None
+whole_by (identities.Other octets) m s = None
 
 abbrev pub whole_of : Result Mm MmRefusal → Subscriber → Option Whole
-whole_of (Ok (RegistrationRequest registration ksi identity capability status)) s = whole_by identity registration status s
+whole_of (Ok (mm.RegistrationRequest m)) s = whole_by m.identity m s
 whole_of read s = None
 
 abbrev pub whole_in : Option (List ℕ) → Subscriber → Option Whole
@@ -76,10 +79,9 @@ in_use context s = record s { procedure = procedures.Idle; in_use = Some context
 abbrev pub switched : Commanding → Subscriber → Work → Work
 switched o s w = ask Switched s (put (in_use o.context s) (stopped s w))
 
-abbrev pub completed : ℕ → Option (List ℕ) → Commanding → Subscriber → Work → Work
-completed number message o s w =
-    goes_on o.challenging.purpose (whole_in message s) number o.context (in_use o.context s) (switched o s w)
+abbrev pub completed : SecurityModeComplete → ℕ → Commanding → Subscriber → Work → Work
+completed m number o s w =
+    goes_on o.challenging.purpose (whole_in m.message s) number o.context (in_use o.context s) (switched o s w)
 
-unfoldable pub mode_completed : ℕ → Option (List ℕ) → Subscriber → Work → Work
-mode_completed number message s w =
-    per (commanding_of s.procedure) w (λ (o : Commanding). completed number message o s w)
+unfoldable pub mode_completed : SecurityModeComplete → ℕ → Subscriber → Work → Work
+mode_completed m number s w = per (commanding_of s.procedure) w (λ (o : Commanding). completed m number o s w)

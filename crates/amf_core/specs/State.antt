@@ -11,7 +11,6 @@ use Rattle.amf_core.specs.Keyed.{found}
 use Rattle.amf_core.specs.declared.config.AmfSubscriber.{AmfSubscriber}
 use Rattle.amf_core.specs.declared.config.Configured.{Configured}
 use Rattle.amf_core.specs.declared.link.Link.{Link}
-use Rattle.amf_core.specs.declared.procedures.Challenging.{Challenging}
 use Rattle.amf_core.specs.declared.procedures.Phase.{Phase}
 use Rattle.amf_core.specs.declared.procedures.Phase.TheVariants as phases
 use Rattle.amf_core.specs.declared.procedures.Procedure.{Procedure}

@@ -2,9 +2,10 @@
 use Rattle.std.specs.Prelude.{ℕ, ◌==◌, List, Option, Some, None}
 use Rattle.nas_base.specs.Branches.{per, when◌then◌else◌}
 use Rattle.nas_base.specs.Values.{psi_from}
-use Rattle.nas_elements.specs.declared.slice.Slice.{Slice}
+use Rattle.nas_base.specs.declared.mm_cause.TheConstants as cause
 use Rattle.nas_security.specs.declared.challenges.Challenge.{Challenge}
-use Rattle.mm_messages.specs.declared.message.Mm.TheVariants.{DlNasTransport}
+use Rattle.mm_messages.specs.declared.message.Mm.TheVariants as mm
+use Rattle.mm_messages.specs.declared.transport.UlNasTransport.{UlNasTransport}
 use Rattle.amf_core.specs.Work.{ask, say, say_on}
 use Rattle.amf_core.specs.declared.acts.Protection.TheVariants.{Ciphered}
 use Rattle.amf_core.specs.declared.outs.SmfAsk.TheVariants.{Frame}
@@ -20,16 +21,21 @@ abbrev pub session_of : ℕ → Option ℕ → Option ℕ
 session_of container_type psi =
     when container_type == n1_sm then per psi None psi_from else None
 
--- UL NAS TRANSPORT: a 5GSM message of a session goes to the SMF. Anything else goes back (90, payload was not forwarded).
-abbrev pub not_forwarded : ℕ → ℕ → List ℕ → Option ℕ → Subscriber → Work → Work
-not_forwarded number container_type container psi s w =
-    say number (Ciphered s.supi) (DlNasTransport container_type container psi (Some 90)) w
+-- UL NAS TRANSPORT: a 5GSM message of a session goes to the SMF. Anything else goes back.
+abbrev pub not_forwarded : UlNasTransport → ℕ → Subscriber → Work → Work
+not_forwarded m number s w = say number (Ciphered s.supi) (mm.DlNasTransport (record {
+  container_type = m.container_type;
+  container = m.container;
+  psi = m.psi;
+  cause = Some cause.PAYLOAD_WAS_NOT_FORWARDED;
+})) w
 
-unfoldable pub transported : ℕ → Challenge → ℕ → List ℕ → Option ℕ → Option Slice → Option (List ℕ) → Subscriber → Work → Work
-transported number challenge container_type container psi slice dnn s w =
-    per (session_of container_type psi) (not_forwarded number container_type container psi s w)
-    (λ (n : ℕ). ask (Frame n challenge dnn slice container) s w)
+unfoldable pub transported : UlNasTransport → ℕ → Challenge → Subscriber → Work → Work
+transported m number challenge s w =
+    per (session_of m.container_type m.psi) (not_forwarded m number s w)
+    (λ (psi : ℕ). ask (Frame psi challenge m.dnn m.slice m.container) s w)
 
 -- DL NAS TRANSPORT with a 5GSM message of the SMF
 unfoldable pub brought_down : ℕ → List ℕ → Subscriber → Work → Work
-brought_down psi frame s w = say_on s.link (Ciphered s.supi) (DlNasTransport n1_sm frame (Some psi) None) w
+brought_down psi frame s w =
+    say_on s.link (Ciphered s.supi) (mm.DlNasTransport (record { container_type = n1_sm; container = frame; psi = Some psi; cause = None })) w

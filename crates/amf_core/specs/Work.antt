@@ -5,7 +5,7 @@ use Rattle.nas_timers.specs.Durations.{deadline_after, duration_of}
 use Rattle.nas_timers.specs.declared.timer_id.TimerId.{TimerId}
 use Rattle.milenage.specs.Home.{HomeRecord}
 use Rattle.mm_messages.specs.declared.message.Mm.{Mm}
-use Rattle.mm_messages.specs.declared.message.Mm.TheVariants.{FiveGmmStatus, RegistrationReject}
+use Rattle.mm_messages.specs.declared.message.Mm.TheVariants as mm
 use Rattle.amf_core.specs.Drafts.{by_now, home_by_now, with_home, with_link_record, with_record}
 use Rattle.amf_core.specs.State.{link_in, subscriber_in}
 use Rattle.amf_core.specs.declared.acts.Act.TheVariants.{Say, Tell}
@@ -68,10 +68,10 @@ abbrev pub answer : ℕ → Mm → Work → Work
 answer number message w = say number (own_protection (link_of number w)) message w
 
 abbrev pub status : ℕ → ℕ → Work → Work
-status number cause w = answer number (FiveGmmStatus cause) w
+status number cause w = answer number (mm.FiveGmmStatus (record { cause = cause })) w
 
 abbrev pub reject : ℕ → ℕ → Work → Work
-reject number cause w = answer number (RegistrationReject cause) w
+reject number cause w = answer number (mm.RegistrationReject (record { cause = cause })) w
 
 -- one that belongs to the procedure of a subscriber
 abbrev pub answer_for : Subscriber → ℕ → Mm → Work → Work

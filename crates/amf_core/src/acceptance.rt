@@ -6,7 +6,7 @@ ghost use Rattle.amf_core.specs.Acceptance.{acceptance_ended, acceptance_put, co
 use crate::subscriber::copied_offer;
 use crate::work::Work;
 use crate::{Accepting, Configured, Gutis, Offer, Procedure, Request, SmfAsk, Subscriber};
-use mm_messages::{Mm, RegistrationType};
+use mm_messages::{Mm, RegistrationReject, RegistrationType};
 use nas_base::Memory;
 use nas_base::mm_cause::PROTOCOL_ERROR_UNSPECIFIED;
 use nas_elements::{Guti, Status};
@@ -67,8 +67,8 @@ fn kept_with(named: &Option<Guti>, guti: &Guti, kept: &Gutis) -> Gutis
     ensures { result ≡ kept_with named.now guti.now kept.now }
 {
     match named {
-        Some(named) if kept.has(named) => Gutis::two(named.copy(), guti.copy()),
-        _ => Gutis::one(guti.copy()),
+        Some(named) if kept.has(named) => Gutis::from_two(named.copy(), guti.copy()),
+        _ => Gutis::from_one(guti.copy()),
     }
 }
 
@@ -107,7 +107,7 @@ fn confirmed(guti: &Guti, s: Subscriber) -> Subscriber
     ensures { result ≡ confirmed guti.now s }
 {
     Subscriber {
-        kept: Gutis::one(guti.copy()),
+        kept: Gutis::from_one(guti.copy()),
         completed: true,
         ..s
     }
@@ -195,9 +195,9 @@ impl<'a> Work<'a> {
         self.answer_for(
             &s,
             number,
-            Mm::RegistrationReject {
+            Mm::RegistrationReject(RegistrationReject {
                 cause: PROTOCOL_ERROR_UNSPECIFIED,
-            },
+            }),
         )
     }
 

@@ -7,7 +7,7 @@ use crate::registration::is_on;
 use crate::work::Work;
 use crate::{Authentication, Challenging, Phase, Procedure, Purpose, Subscriber};
 use key_chain::nas_keys;
-use mm_messages::Mm;
+use mm_messages::{AuthenticationFailure, AuthenticationResponse, Mm};
 use nas_base::Memory;
 use nas_base::mm_cause::{
     MAC_FAILURE, NGKSI_ALREADY_IN_USE, NON_5G_AUTHENTICATION_UNACCEPTABLE, SYNCH_FAILURE,
@@ -116,14 +116,14 @@ impl<'a> Work<'a> {
     #[tactic(auto, unfolding(nas_base::specs::Branches::chosen))]
     fn answered(
         &mut self,
+        response: &AuthenticationResponse,
         number: u16,
-        res_star: &Option<[u8; 16]>,
         asking: &Asking,
         s: Subscriber,
     ) -> Result<(), Memory>
-        ensures { OnOk result (self.new ≡ answered number res_star.now asking.now s self.old) }
+        ensures { OnOk result (self.new ≡ answered response.now number asking.now s self.old) }
     {
-        if is_expected(res_star, &asking.auth) {
+        if is_expected(&response.res_star, &asking.auth) {
             return self.command_mode(asking, s);
         }
         self.reject_authentication(number, s)
@@ -133,14 +133,14 @@ impl<'a> Work<'a> {
     #[tactic(auto, unfolding(crate::specs::Authentication::responded, nas_base::specs::Branches::per))]
     pub fn responded(
         &mut self,
+        response: &AuthenticationResponse,
         number: u16,
-        res_star: &Option<[u8; 16]>,
         s: Subscriber,
     ) -> Result<(), Memory>
-        ensures { OnOk result (self.new ≡ responded number res_star.now s self.old) }
+        ensures { OnOk result (self.new ≡ responded response.now number s self.old) }
     {
         match asking_on(number, &s.procedure) {
-            Some(asking) => self.answered(number, res_star, &asking, s),
+            Some(asking) => self.answered(response, number, &asking, s),
             None => Ok(()),
         }
     }
@@ -181,19 +181,18 @@ impl<'a> Work<'a> {
     fn failed_by(
         &mut self,
         alloc: Global,
-        cause: u8,
-        auts: &Option<[u8; 14]>,
+        failure: &AuthenticationFailure,
         number: u16,
         asking: &Asking,
         s: Subscriber,
     ) -> Result<(), Memory>
-        ensures { OnOk result (self.new ≡ failed_by cause auts.now number asking.now s self.old) }
+        ensures { OnOk result (self.new ≡ failed_by failure.now number asking.now s self.old) }
     {
-        match cause {
+        match failure.cause {
             MAC_FAILURE | NON_5G_AUTHENTICATION_UNACCEPTABLE => self.reject_authentication(
                 number, s,
             ),
-            SYNCH_FAILURE => match auts {
+            SYNCH_FAILURE => match &failure.auts {
                 Some(auts) => self.resynchronised(alloc, auts, asking, s),
                 None => Ok(()),
             },
@@ -207,15 +206,14 @@ impl<'a> Work<'a> {
     pub fn authentication_failed(
         &mut self,
         alloc: Global,
+        failure: &AuthenticationFailure,
         number: u16,
-        cause: u8,
-        auts: &Option<[u8; 14]>,
         s: Subscriber,
     ) -> Result<(), Memory>
-        ensures { OnOk result (self.new ≡ authentication_failed number cause auts.now s self.old) }
+        ensures { OnOk result (self.new ≡ authentication_failed failure.now number s self.old) }
     {
         match asking_on(number, &s.procedure) {
-            Some(asking) => self.failed_by(alloc, cause, auts, number, &asking, s),
+            Some(asking) => self.failed_by(alloc, failure, number, &asking, s),
             None => Ok(()),
         }
     }

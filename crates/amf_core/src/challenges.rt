@@ -1,18 +1,18 @@
 //! Challenges: how one starts, what is sent of it, and how a procedure ends.
 ghost use Rattle.std.specs.Prelude.{◌≡◌, ◌^◌, ◌<◌, OnOk};
-ghost use Rattle.amf_core.specs.Challenges.{VectorFits, asked_for, authentication, begun_with, by_vector, capability_of, challenge, challenge_begun, challenge_open, challenge_put, challenge_refused, challenge_sent, chosen_nea, claimed, claimed_one, ended, idle, is_ksi_taken, kamf_of, new_ksi, request_sent, stopped, told};
+ghost use Rattle.amf_core.specs.Challenges.{VectorFits, asked_for, authentication, authentication_request, begun_with, by_vector, capability_of, challenge, challenge_begun, challenge_open, challenge_put, challenge_refused, challenge_sent, chosen_nea, claimed, claimed_one, ended, idle, is_ksi_taken, kamf_of, new_ksi, request_sent, security_mode_command, stopped, told};
 
 use crate::acts::Protection;
 use crate::work::Work;
 use crate::{Authentication, Challenging, Configured, Phase, Procedure, Purpose, Subscriber};
 use key_chain::{kamf, kausf, kseaf, res_star};
 use milenage::{HomeRefusal, Vector};
-use mm_messages::Mm;
+use mm_messages::{AuthenticationRequest, Mm, SecurityModeCommand};
 use nas_base::mm_cause::PROTOCOL_ERROR_UNSPECIFIED;
 use nas_base::{Ksi, Memory, Supi};
 use nas_elements::{Asi, Capability};
 use nas_layout::Abba;
-use nas_security::Challenge;
+use nas_security::{Challenge, Context};
 use nas_timers::TimerId;
 use std::alloc::Global;
 
@@ -111,6 +111,34 @@ fn asked_for(purpose: &Purpose) -> Option<Asi>
     }
 }
 
+// AUTHENTICATION REQUEST.
+fn authentication_request(auth: &Authentication) -> AuthenticationRequest
+    ensures { result ≡ authentication_request auth.now }
+{
+    AuthenticationRequest {
+        ksi: auth.ksi,
+        abba: Abba::from_slice(&ABBA).unwrap(),
+        rand: Some(auth.challenge.rand),
+        autn: Some(auth.autn),
+    }
+}
+
+// SECURITY MODE COMMAND of this context.
+fn security_mode_command(
+    context: &Context,
+    challenging: &Challenging,
+    s: &Subscriber,
+) -> SecurityModeCommand
+    ensures { result ≡ security_mode_command context.now challenging.now s.now }
+{
+    SecurityModeCommand {
+        algs: context.algs,
+        ksi: context.ksi,
+        capability: capability_of(s),
+        asi: asked_for(&challenging.purpose),
+    }
+}
+
 /// A subscriber with a challenge.
 pub fn challenge_open(challenging: &Challenging, s: Subscriber) -> Subscriber
     ensures { result ≡ challenge_open challenging.now s }
@@ -168,7 +196,7 @@ impl<'a> Work<'a> {
         self.put(idle(s))
     }
 
-    // AUTHENTICATION REQUEST.
+    // AUTHENTICATION REQUEST is sent.
     fn send_request(
         &mut self,
         auth: &Authentication,
@@ -177,12 +205,7 @@ impl<'a> Work<'a> {
     ) -> Result<(), Memory>
         ensures { OnOk result (self.new ≡ request_sent auth.now number s.now self.old) }
     {
-        let message = Mm::AuthenticationRequest {
-            ksi: auth.ksi,
-            abba: Abba::from_slice(&ABBA).unwrap(),
-            rand: Some(auth.challenge.rand),
-            autn: Some(auth.autn),
-        };
+        let message = Mm::AuthenticationRequest(authentication_request(auth));
         self.answer_for(s, number, message)
     }
 
@@ -197,12 +220,11 @@ impl<'a> Work<'a> {
                 None => Ok(()),
             },
             Phase::Mode(context) => {
-                let message = Mm::SecurityModeCommand {
-                    algs: context.algs,
-                    ksi: context.ksi,
-                    capability: capability_of(s),
-                    asi: asked_for(&challenging.purpose),
-                };
+                let message = Mm::SecurityModeCommand(security_mode_command(
+                    context,
+                    challenging,
+                    s,
+                ));
                 let protection = Protection::IntegrityProtectedWithNewContext(s.supi.copy());
                 self.say_on(challenging.link, protection, message)
             }

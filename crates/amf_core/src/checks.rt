@@ -1,6 +1,6 @@
 //! Octets that pass the check of a context, and what an AMF notes of it.
 ghost use Rattle.std.specs.Prelude.{◌≡◌, [], OnOk, option_map};
-ghost use Rattle.amf_core.specs.Checks.{checked_in_use, checked_pending, counted_mode, noted, opened, passed_in_use, passed_pending, with_count};
+ghost use Rattle.amf_core.specs.Checks.{checked_in_use, checked_pending, noted, opened, passed_in_use, passed_pending, with_count};
 
 use crate::security_mode::{Commanding, commanding_on};
 use crate::work::Work;

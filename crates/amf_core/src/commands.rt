@@ -1,5 +1,5 @@
 //! The commands that an AMF is given.
-ghost use Rattle.std.specs.Prelude.{◌≡◌, OnOk};
+ghost use Rattle.std.specs.Prelude.{◌≡◌};
 ghost use Rattle.amf_core.specs.Commands.{authenticate, authenticated, deregister, left, may_begin};
 ghost use Rattle.amf_core.specs.Outcome.{Works, unrefused};
 

@@ -34,7 +34,7 @@ impl Model for AmfSubscribers {
 
 impl AmfSubscribers {
     /// None.
-    pub fn none(alloc: Global) -> AmfSubscribers
+    pub fn new(alloc: Global) -> AmfSubscribers
         ensures { result ≡ [] }
     {
         AmfSubscribers {
@@ -47,7 +47,7 @@ impl AmfSubscribers {
     /// # Errors
     ///
     /// `Memory`.
-    pub fn one(alloc: Global, subscriber: AmfSubscriber) -> Result<AmfSubscribers, Memory>
+    pub fn from_one(alloc: Global, subscriber: AmfSubscriber) -> Result<AmfSubscribers, Memory>
         ensures { IfOk result (λ subscribers. subscribers ≡ subscriber ∷ []) }
     {
         let mut items = Vec::new(alloc);

@@ -172,30 +172,11 @@ impl<'a> Work<'a> {
         ensures { result ≡ named_inside message.now self.now }
     {
         match message {
-            Some(
-                Mm::RegistrationRequest {
-                    registration: _,
-                    ksi: _,
-                    identity,
-                    capability: _,
-                    status: _,
-                },
-            ) => self.kept_for(identity),
-            Some(
-                Mm::ServiceRequest {
-                    ksi: _,
-                    service_type: _,
-                    identity,
-                    status: _,
-                },
-            ) => self.kept_for(identity),
-            Some(
-                Mm::DeregistrationRequestUeOriginating {
-                    switch_off: _,
-                    ksi: _,
-                    identity,
-                },
-            ) => self.kept_for(identity),
+            Some(Mm::RegistrationRequest(request)) => self.kept_for(&request.identity),
+            Some(Mm::ServiceRequest(request)) => self.kept_for(&request.identity),
+            Some(Mm::DeregistrationRequestUeOriginating(request)) => {
+                self.kept_for(&request.identity)
+            }
             _ => None,
         }
     }
@@ -238,28 +219,10 @@ impl<'a> Work<'a> {
         ensures { OnOk result (self.new ≡ failed_request number message self.old) }
     {
         match message {
-            Mm::RegistrationRequest {
-                registration,
-                ksi,
-                identity,
-                capability,
-                status,
-            } => self.registration_requested(
-                alloc,
-                number,
-                &None,
-                registration,
-                ksi,
-                identity,
-                capability,
-                status,
-            ),
-            Mm::ServiceRequest {
-                ksi: _,
-                service_type: _,
-                identity: _,
-                status: _,
-            } => { self.service_refused(number) }
+            Mm::RegistrationRequest(request) => {
+                self.registration_requested(alloc, &request, number, &None)
+            }
+            Mm::ServiceRequest(_) => self.service_refused(number),
             _ => Ok(()),
         }
     }
@@ -381,67 +344,31 @@ impl<'a> Work<'a> {
     {
         let s = check.subscriber;
         match message {
-            Mm::RegistrationRequest {
-                registration,
-                ksi,
-                identity,
-                capability,
-                status,
-            } => {
+            Mm::RegistrationRequest(request) => {
                 let passed = Some(s.supi);
-                self.registration_requested(
-                    alloc,
-                    number,
-                    &passed,
-                    registration,
-                    ksi,
-                    identity,
-                    capability,
-                    status,
-                )
+                self.registration_requested(alloc, &request, number, &passed)
             }
             Mm::RegistrationComplete => self.registration_completed(&check.challenge, s),
-            Mm::DeregistrationRequestUeOriginating {
-                switch_off,
-                ksi: _,
-                identity: _,
-            } => { self.deregistration_requested(number, switch_off, &s) }
+            Mm::DeregistrationRequestUeOriginating(request) => {
+                self.deregistration_requested(&request, number, &s)
+            }
             Mm::DeregistrationAcceptUeTerminated => self.deregistration_accepted(number, &s),
-            Mm::ServiceRequest {
-                ksi: _,
-                service_type: _,
-                identity: _,
-                status: _,
-            } => { self.service_requested(number, &s) }
-            Mm::AuthenticationResponse { res_star } => self.responded(number, &res_star, s),
-            Mm::AuthenticationFailure { cause, auts } => self.authentication_failed(
-                alloc, number, cause, &auts, s,
-            ),
-            Mm::IdentityResponse { identity } => self.identity_told(alloc, number, &identity),
-            Mm::SecurityModeComplete { message } => {
+            Mm::ServiceRequest(_) => self.service_requested(number, &s),
+            Mm::AuthenticationResponse(response) => self.responded(&response, number, s),
+            Mm::AuthenticationFailure(failure) => {
+                self.authentication_failed(alloc, &failure, number, s)
+            }
+            Mm::IdentityResponse(response) => self.identity_told(alloc, &response, number),
+            Mm::SecurityModeComplete(complete) => {
                 if check.is_pending {
-                    return self.mode_completed(alloc, number, &message, s);
+                    return self.mode_completed(alloc, &complete, number, s);
                 }
                 Ok(())
             }
-            Mm::SecurityModeReject { cause: _ } => self.mode_rejected(number, s),
-            Mm::UlNasTransport {
-                container_type,
-                container,
-                psi,
-                request_type: _,
-                slice,
-                dnn,
-            } => self.transported(
-                number,
-                check.challenge,
-                container_type,
-                container,
-                psi,
-                slice,
-                dnn,
-                &s,
-            ),
+            Mm::SecurityModeReject(_) => self.mode_rejected(number, s),
+            Mm::UlNasTransport(transport) => {
+                self.transported(transport, number, check.challenge, &s)
+            }
             _ => Ok(()),
         }
     }
@@ -452,38 +379,20 @@ impl<'a> Work<'a> {
         ensures { OnOk result (self.new ≡ taken_plain number message self.old) }
     {
         match message {
-            Mm::RegistrationRequest {
-                registration,
-                ksi,
-                identity,
-                capability,
-                status,
-            } => self.registration_requested(
-                alloc,
-                number,
-                &None,
-                registration,
-                ksi,
-                identity,
-                capability,
-                status,
-            ),
-            Mm::ServiceRequest {
-                ksi: _,
-                service_type: _,
-                identity: _,
-                status: _,
-            } => { self.service_refused(number) }
-            Mm::IdentityResponse { identity } => self.identity_told(alloc, number, &identity),
-            Mm::AuthenticationResponse { res_star } => match self.subscriber_of_link(number) {
-                Some(s) => self.responded(number, &res_star, s),
+            Mm::RegistrationRequest(request) => {
+                self.registration_requested(alloc, &request, number, &None)
+            }
+            Mm::ServiceRequest(_) => self.service_refused(number),
+            Mm::IdentityResponse(response) => self.identity_told(alloc, &response, number),
+            Mm::AuthenticationResponse(response) => match self.subscriber_of_link(number) {
+                Some(s) => self.responded(&response, number, s),
                 None => Ok(()),
             },
-            Mm::AuthenticationFailure { cause, auts } => match self.subscriber_of_link(number) {
-                Some(s) => self.authentication_failed(alloc, number, cause, &auts, s),
+            Mm::AuthenticationFailure(failure) => match self.subscriber_of_link(number) {
+                Some(s) => self.authentication_failed(alloc, &failure, number, s),
                 None => Ok(()),
             },
-            Mm::SecurityModeReject { cause: _ } => match self.subscriber_of_link(number) {
+            Mm::SecurityModeReject(_) => match self.subscriber_of_link(number) {
                 Some(s) => self.mode_rejected(number, s),
                 None => Ok(()),
             },

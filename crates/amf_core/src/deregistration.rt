@@ -6,7 +6,7 @@ use crate::acts::Protection;
 use crate::registration::is_on;
 use crate::work::Work;
 use crate::{Deregistering, Procedure, SmfAsk, Subscriber};
-use mm_messages::Mm;
+use mm_messages::{DeregistrationRequestUeOriginating, DeregistrationRequestUeTerminated, Mm};
 use nas_base::Memory;
 use nas_timers::TimerId;
 
@@ -46,14 +46,14 @@ impl<'a> Work<'a> {
     #[tactic(auto, unfolding(crate::specs::Deregistration::deregistration_requested, nas_base::specs::Branches::chosen))]
     pub fn deregistration_requested(
         &mut self,
+        request: &DeregistrationRequestUeOriginating,
         number: u16,
-        switch_off: bool,
         s: &Subscriber,
     ) -> Result<(), Memory>
-        ensures { OnOk result (self.new ≡ deregistration_requested number switch_off s.now self.old) }
+        ensures { OnOk result (self.new ≡ deregistration_requested request.now number s.now self.old) }
     {
         self.deregister(s)?;
-        if switch_off {
+        if request.switch_off {
             return Ok(());
         }
         self.say(
@@ -81,10 +81,10 @@ impl<'a> Work<'a> {
         self.say_on(
             s.link,
             Protection::Ciphered(s.supi.copy()),
-            Mm::DeregistrationRequestUeTerminated {
+            Mm::DeregistrationRequestUeTerminated(DeregistrationRequestUeTerminated {
                 switch_off: false,
                 cause: None,
-            },
+            }),
         )
     }
 

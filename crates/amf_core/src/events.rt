@@ -1,6 +1,6 @@
 //! Timers that expire, what the SMF wants, and links that are lost.
 ghost use Rattle.std.specs.Prelude.{◌≡◌, ◌<◌, OnOk};
-ghost use Rattle.amf_core.specs.Events.{acceptance_again, acceptance_resent, accepting_expired, carried_down, challenge_again, challenging_expired, deregistering_expired, dropped, expired, expired_of, fenced, fenced_of, is_challenged_on, is_left, link_lost_of, lost_for, sessions_told, unlinked};
+ghost use Rattle.amf_core.specs.Events.{acceptance_again, acceptance_resent, accepting_expired, carried_down, challenge_again, challenging_expired, deregistering_expired, dropped, expired, expired_of, fenced, fenced_of, is_challenged_on, link_lost_of, lost_for, sessions_told, unlinked};
 
 use crate::acts::Protection;
 use crate::challenges::{challenge_open, idle};

@@ -1,7 +1,7 @@
 //! How what is said becomes octets: spelled, and protected under the contexts of the subscribers.
 ghost use Rattle.std.specs.Prelude.{◌≡◌, ◌≤◌, [], OnOk, length};
 ghost use Rattle.mm_messages.specs.Messages.{spelling};
-ghost use Rattle.amf_core.specs.Framing.{IsSpelled, ciphered_for, commanded_for, framed, framed_all, framed_ciphered, framed_plain, framed_with_new_context, sent, under_in_use, under_new};
+ghost use Rattle.amf_core.specs.Framing.{IsSpelled, ciphered_for, framed, framed_all, framed_ciphered, framed_plain, framed_with_new_context, sent, under_in_use, under_new};
 
 use crate::acts::{Act, Acts, Protection};
 use crate::draft::Draft;
@@ -39,7 +39,7 @@ impl<'a> Framed<'a> {
         ensures { OnOk result (self.new ≡ framed act self.old) }
     {
         match act {
-            Act::Tell(out) => self.outs.push(out),
+            Act::Tell(out) => self.outs.push(alloc, out),
             Act::Say {
                 link,
                 protection,
@@ -208,12 +208,13 @@ impl<'a> Framed<'a> {
         let Ok(octets) = Octets::copy(alloc, octets) else {
             return Err(Memory);
         };
-        self.outs.push(AmfOut::Send(Send {
+        let send = Send {
             link,
             fresh: false,
             octets,
             pass,
-        }))
+        };
+        self.outs.push(alloc, AmfOut::Send(send))
     }
 }
 

@@ -4,6 +4,7 @@ ghost use Rattle.amf_core.specs.Identification.{identity_told, suci_told, waited
 
 use crate::Request;
 use crate::work::Work;
+use mm_messages::IdentityResponse;
 use nas_base::Memory;
 use nas_elements::{Identity, Suci};
 use std::alloc::Global;
@@ -42,12 +43,12 @@ impl<'a> Work<'a> {
     pub fn identity_told(
         &mut self,
         alloc: Global,
+        response: &IdentityResponse,
         number: u16,
-        identity: &Identity,
     ) -> Result<(), Memory>
-        ensures { OnOk result (self.new ≡ identity_told number identity.now self.old) }
+        ensures { OnOk result (self.new ≡ identity_told response.now number self.old) }
     {
-        match identity {
+        match &response.identity {
             Identity::Suci(suci) => self.suci_told(alloc, number, suci),
             Identity::Guti(_) | Identity::Stmsi(_) | Identity::Other(_) => Ok(()),
         }

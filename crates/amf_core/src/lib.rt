@@ -45,5 +45,5 @@ pub use crate::procedures::{
 };
 pub use crate::requests::{Named, Request};
 pub use crate::stepping::{Done, follow, step};
-pub use crate::subscriber::{Gutis, Offer, Subscriber};
+pub use crate::subscriber::{Gutis, KeptGuti, Offer, Subscriber};
 pub use crate::view::NetView;

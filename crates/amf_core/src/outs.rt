@@ -1,5 +1,5 @@
 //! What goes out of an AMF.
-ghost use Rattle.std.specs.Prelude.{◌≡◌, [], ◌∷◌, ◌++◌, OnOk};
+ghost use Rattle.std.specs.Prelude.{◌≡◌, [], ◌∷◌, ◌++◌, OnErr, OnOk};
 
 use nas_base::{Memory, Moment, Octets, Psi, Supi};
 use nas_elements::{Dnn, Slice, Status};
@@ -78,9 +78,10 @@ impl AmfOuts {
     ///
     /// # Errors
     ///
-    /// `Memory`.
-    pub fn push(&mut self, out: AmfOut) -> Result<(), Memory>
-        ensures { OnOk result (self.new ≡ self.old ++ out ∷ []) }
+    /// `Memory`; nothing then changes.
+    pub fn push(&mut self, _alloc: Global, out: AmfOut) -> Result<(), Memory>
+        ensures ok { OnOk result (self.new ≡ self.old ++ out ∷ []) }
+        ensures err { OnErr result (self.new ≡ self.old) }
     {
         match self.items.push(out) {
             Ok(()) => Ok(()),

@@ -1,18 +1,18 @@
 //! REGISTRATION REQUEST.
 ghost use Rattle.std.specs.Prelude.{◌≡◌, OnOk};
 ghost use Rattle.amf_core.specs.Naming.{keeper, named_by_suci};
-ghost use Rattle.amf_core.specs.Registration.{accept, accept_sent, acceptance, counting_capability, equal_acceptance, identity_wanted, is_emergency, is_enough, is_granted, is_on, is_periodic, is_purpose, is_running, periodic_accepted, registration_requested, request_by_guti, request_by_identity, request_by_suci, request_weighed, requested};
+ghost use Rattle.amf_core.specs.Registration.{accept, accept_sent, acceptance, counting_capability, equal_acceptance, identity_wanted, is_capable, is_emergency, is_enough, is_granted, is_on, is_periodic, is_purpose, is_running, kept, periodic_accepted, registration_requested, request_by_guti, request_by_identity, request_by_suci, request_weighed, requested};
 
 use crate::acts::Protection;
 use crate::requests::{copied, copied_suci};
 use crate::work::Work;
 use crate::{Accepting, Configured, Named, Procedure, Purpose, Request, Subscriber};
-use mm_messages::{Mm, RegistrationType};
+use mm_messages::{IdentityRequest, Mm, RegistrationAccept, RegistrationRequest, RegistrationType};
 use nas_base::mm_cause::{
     ILLEGAL_UE, PROTOCOL_ERROR_UNSPECIFIED, UE_IDENTITY_CANNOT_BE_DERIVED_BY_THE_NETWORK,
     UE_SECURITY_CAPABILITIES_MISMATCH,
 };
-use nas_base::{Ksi, Memory, Supi};
+use nas_base::{Memory, Supi};
 use nas_elements::{Capability, Guti, Identity, Nssai, Status, Suci, TaiList};
 use nas_layout::Half;
 use std::alloc::Global;
@@ -49,6 +49,30 @@ fn counting_capability(request: &Request, s: &Subscriber) -> Option<Capability>
     match &request.capability {
         Some(capability) => Some(capability.copy()),
         None => copied(&s.capability),
+    }
+}
+
+// Whether the capability that counts is there, and enough.
+#[tactic(auto, unfolding(nas_base::specs::Branches::per))]
+fn is_capable(request: &Request, s: &Subscriber) -> bool
+    ensures { result ≡ is_capable request.now s.now }
+{
+    match counting_capability(request, s) {
+        Some(capability) => is_enough(&capability),
+        None => false,
+    }
+}
+
+// What is kept of a request, beside who sent it.
+fn kept(request: &RegistrationRequest, identity: Named) -> Request
+    ensures { result ≡ kept request.now identity }
+{
+    Request {
+        registration: request.registration,
+        ksi: request.ksi,
+        identity,
+        capability: copied(&request.capability),
+        status: request.status,
     }
 }
 
@@ -95,14 +119,14 @@ fn equal_acceptance(request: &Request, procedure: &Procedure) -> Option<Acceptin
 fn accept(config: &Configured, slices: &Nssai, guti: Option<Guti>, status: Option<Status>) -> Mm
     ensures { result ≡ accept config.now slices.now guti status }
 {
-    Mm::RegistrationAccept {
+    Mm::RegistrationAccept(RegistrationAccept {
         result: THREE_GPP_ACCESS,
         guti,
         tai_list: Some(TaiList::of_one_area(&config.plmn, &config.tac)),
         nssai: Some(slices.copy()),
         status,
         t3512: Some(config.t3512),
-    }
+    })
 }
 
 /// REGISTRATION ACCEPT of an acceptance.
@@ -181,10 +205,9 @@ impl<'a> Work<'a> {
         number: u16,
         passed: &Option<Supi>,
         request: Request,
-        capability: Capability,
         s: Subscriber,
     ) -> Result<(), Memory>
-        ensures { OnOk result (self.new ≡ request_weighed number passed.now request capability s self.old) }
+        ensures { OnOk result (self.new ≡ request_weighed number passed.now request s self.old) }
     {
         if is_running(number, &request, &s.procedure) {
             return Ok(());
@@ -195,17 +218,18 @@ impl<'a> Work<'a> {
         if is_granted(passed, &request, &s) {
             return self.accept_periodic(number, &s);
         }
+        let capability = counting_capability(&request, &s);
         self.challenge(
             alloc,
             Purpose::Registration(request),
             Some(number),
-            Some(capability),
+            capability,
             s,
         )
     }
 
     // A request of a subscriber that is known.
-    #[tactic(auto, unfolding(crate::specs::Registration::requested, nas_base::specs::Branches::chosen, nas_base::specs::Branches::per))]
+    #[tactic(auto, unfolding(crate::specs::Registration::requested, nas_base::specs::Branches::chosen))]
     fn requested(
         &mut self,
         alloc: Global,
@@ -216,13 +240,10 @@ impl<'a> Work<'a> {
     ) -> Result<(), Memory>
         ensures { OnOk result (self.new ≡ requested number passed.now request s self.old) }
     {
-        let Some(capability) = counting_capability(&request, &s) else {
-            return self.reject(number, UE_SECURITY_CAPABILITIES_MISMATCH);
-        };
-        if !is_enough(&capability) {
+        if !is_capable(&request, &s) {
             return self.reject(number, UE_SECURITY_CAPABILITIES_MISMATCH);
         }
-        self.weigh_request(alloc, number, passed, request, capability, s)
+        self.weigh_request(alloc, number, passed, request, s)
     }
 
     // A request waits for the identity of who sent it, which is asked for.
@@ -234,9 +255,9 @@ impl<'a> Work<'a> {
         self.put_link(link)?;
         self.answer(
             number,
-            Mm::IdentityRequest {
+            Mm::IdentityRequest(IdentityRequest {
                 identity_type: SUCI,
-            },
+            }),
         )
     }
 
@@ -310,36 +331,20 @@ impl<'a> Work<'a> {
     fn request_by_identity(
         &mut self,
         alloc: Global,
+        request: &RegistrationRequest,
         number: u16,
         passed: &Option<Supi>,
-        registration: RegistrationType,
-        ksi: Ksi,
-        identity: &Identity,
-        capability: Option<Capability>,
-        status: Option<Status>,
     ) -> Result<(), Memory>
-        ensures { OnOk result (self.new ≡ request_by_identity number passed.now registration ksi identity.now capability status self.old) }
+        ensures { OnOk result (self.new ≡ request_by_identity request.now.identity request.now number passed.now self.old) }
     {
-        match identity {
+        match &request.identity {
             Identity::Suci(suci) => {
-                let request = Request {
-                    registration,
-                    ksi,
-                    identity: Named::Suci(copied_suci(suci)),
-                    capability,
-                    status,
-                };
-                self.request_of_suci(alloc, number, passed, request, suci)
+                let kept = kept(request, Named::Suci(copied_suci(suci)));
+                self.request_of_suci(alloc, number, passed, kept, suci)
             }
             Identity::Guti(guti) => {
-                let request = Request {
-                    registration,
-                    ksi,
-                    identity: Named::Guti(guti.copy()),
-                    capability,
-                    status,
-                };
-                self.request_of_guti(alloc, number, passed, request, guti)
+                let kept = kept(request, Named::Guti(guti.copy()));
+                self.request_of_guti(alloc, number, passed, kept, guti)
             }
             Identity::Stmsi(_) | Identity::Other(_) => {
                 self.reject(number, UE_IDENTITY_CANNOT_BE_DERIVED_BY_THE_NETWORK)
@@ -352,28 +357,15 @@ impl<'a> Work<'a> {
     pub fn registration_requested(
         &mut self,
         alloc: Global,
+        request: &RegistrationRequest,
         number: u16,
         passed: &Option<Supi>,
-        registration: RegistrationType,
-        ksi: Ksi,
-        identity: Identity,
-        capability: Option<Capability>,
-        status: Option<Status>,
     ) -> Result<(), Memory>
-        ensures { OnOk result (self.new ≡ registration_requested number passed.now registration ksi identity capability status self.old) }
+        ensures { OnOk result (self.new ≡ registration_requested request.now number passed.now self.old) }
     {
-        if is_emergency(registration) {
+        if is_emergency(request.registration) {
             return self.reject(number, PROTOCOL_ERROR_UNSPECIFIED);
         }
-        self.request_by_identity(
-            alloc,
-            number,
-            passed,
-            registration,
-            ksi,
-            &identity,
-            capability,
-            status,
-        )
+        self.request_by_identity(alloc, request, number, passed)
     }
 }

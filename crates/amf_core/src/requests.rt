@@ -1,5 +1,6 @@
 //! REGISTRATION REQUESTs that are kept.
-ghost use Rattle.std.specs.Prelude.{◌≡◌};
+ghost use Rattle.std.specs.Prelude.{◌≡◌, ◌==◌};
+ghost use Rattle.mm_messages.specs.Parts.{registration_type_code};
 ghost use Rattle.amf_core.specs.Naming.{is_guti, is_plmn_of};
 ghost use Rattle.amf_core.specs.Requests.{are_same_sessions, is_named, is_option, is_same, is_suci};
 ghost use Rattle.std.specs.Str.{bytes_eq};
@@ -49,6 +50,13 @@ fn is_suci(one: &Suci, other: &Suci) -> bool
     is_plmn_of(&one.plmn, &other.plmn)
         && one.routing.as_slice() == other.routing.as_slice()
         && one.msin.as_slice() == other.msin.as_slice()
+}
+
+// Whether two registrations are of the same type.
+fn is_type(one: RegistrationType, other: RegistrationType) -> bool
+    ensures { result ≡ (registration_type_code one == registration_type_code other) }
+{
+    one == other
 }
 
 // Whether two requests tell the same capability, if any.
@@ -108,7 +116,7 @@ impl Request {
     pub fn is_same(&self, other: &Request) -> bool
         ensures { result ≡ is_same self.now other.now }
     {
-        self.registration.code() == other.registration.code()
+        is_type(self.registration, other.registration)
             && self.ksi == other.ksi
             && self.identity.is_named(&other.identity)
             && is_capability(&self.capability, &other.capability)

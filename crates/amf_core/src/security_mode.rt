@@ -1,16 +1,15 @@
 //! The answers to SECURITY MODE COMMAND.
 ghost use Rattle.std.specs.Prelude.{◌≡◌, Ok, IfOk, OnOk};
-ghost use Rattle.mm_messages.specs.Messages.{mm_in};
-ghost use Rattle.amf_core.specs.SecurityMode.{commanding_of, commanding_on, completed, goes_on, in_use, mode_completed, mode_rejected, switched, whole_by, whole_in, whole_of};
+ghost use Rattle.amf_core.specs.SecurityMode.{commanding_of, commanding_on, completed, goes_on, in_use, mode_completed, mode_rejected, switched, whole_by, whole_in, whole_of, whole_with};
 
 use crate::acceptance::Whole;
 use crate::naming::suci_digits;
 use crate::registration::is_on;
 use crate::work::Work;
 use crate::{Challenging, Phase, Procedure, Purpose, SmfAsk, Subscriber};
-use mm_messages::{Mm, MmRefusal, RegistrationType, decode_mm};
+use mm_messages::{Mm, MmRefusal, RegistrationRequest, SecurityModeComplete, decode_mm};
 use nas_base::{Memory, Octets};
-use nas_elements::{Identity, Status};
+use nas_elements::{Guti, Identity};
 use nas_security::Context;
 use std::alloc::Global;
 
@@ -49,29 +48,27 @@ pub fn commanding_on(number: u16, procedure: &Procedure) -> Option<Commanding>
     }
 }
 
-// What is taken of the whole request, where it names this subscriber.
-#[tactic(auto, unfolding(nas_base::specs::Branches::chosen))]
-fn whole_by(
-    identity: &Identity,
-    registration: RegistrationType,
-    status: Option<Status>,
-    s: &Subscriber,
-) -> Option<Whole>
-    ensures { result ≡ whole_by identity.now registration status s.now }
+// What is taken of the whole request, which names this 5G-GUTI, if any.
+fn whole_with(guti: Option<Guti>, request: &RegistrationRequest) -> Whole
+    ensures { result ≡ whole_with guti request.now }
 {
-    match identity {
-        Identity::Guti(guti) => Some(Whole {
-            registration,
-            guti: Some(guti.copy()),
-            status,
-        }),
+    Whole {
+        registration: request.registration,
+        guti,
+        status: request.status,
+    }
+}
+
+// The same, where the request names this subscriber.
+#[tactic(auto, unfolding(nas_base::specs::Branches::chosen))]
+fn whole_by(request: &RegistrationRequest, s: &Subscriber) -> Option<Whole>
+    ensures { result ≡ whole_by request.now.identity request.now s.now }
+{
+    match &request.identity {
+        Identity::Guti(guti) => Some(whole_with(Some(guti.copy()), request)),
         Identity::Suci(suci) => {
             if s.supi.as_slice() == suci_digits(suci).as_slice() {
-                Some(Whole {
-                    registration,
-                    guti: None,
-                    status,
-                })
+                Some(whole_with(None, request))
             } else {
                 None
             }
@@ -85,13 +82,7 @@ fn whole_of(message: &Mm, s: &Subscriber) -> Option<Whole>
     ensures { result ≡ whole_of (Ok message.now) s.now }
 {
     match message {
-        Mm::RegistrationRequest {
-            registration,
-            ksi: _,
-            identity,
-            capability: _,
-            status,
-        } => whole_by(identity, *registration, *status, s),
+        Mm::RegistrationRequest(request) => whole_by(request, s),
         _ => None,
     }
 }
@@ -173,14 +164,14 @@ impl<'a> Work<'a> {
     fn completed(
         &mut self,
         alloc: Global,
+        complete: &SecurityModeComplete,
         number: u16,
-        message: &Option<Octets>,
         commanding: &Commanding,
         s: Subscriber,
     ) -> Result<(), Memory>
-        ensures { OnOk result (self.new ≡ completed number message.now commanding.now s self.old) }
+        ensures { OnOk result (self.new ≡ completed complete.now number commanding.now s self.old) }
     {
-        let whole = whole_in(alloc, message, &s)?;
+        let whole = whole_in(alloc, &complete.message, &s)?;
         self.switch(commanding, &s)?;
         let context = commanding.context;
         self.go_on_with(
@@ -197,14 +188,14 @@ impl<'a> Work<'a> {
     pub fn mode_completed(
         &mut self,
         alloc: Global,
+        complete: &SecurityModeComplete,
         number: u16,
-        message: &Option<Octets>,
         s: Subscriber,
     ) -> Result<(), Memory>
-        ensures { OnOk result (self.new ≡ mode_completed number message.now s self.old) }
+        ensures { OnOk result (self.new ≡ mode_completed complete.now number s self.old) }
     {
         match commanding_of(&s.procedure) {
-            Some(commanding) => self.completed(alloc, number, message, &commanding, s),
+            Some(commanding) => self.completed(alloc, complete, number, &commanding, s),
             None => Ok(()),
         }
     }

@@ -1,13 +1,30 @@
 //! SERVICE REQUEST.
 ghost use Rattle.std.specs.Prelude.{◌≡◌, OnOk};
-ghost use Rattle.amf_core.specs.Service.{service_refused, service_requested};
+ghost use Rattle.amf_core.specs.Service.{service_accept, service_refused, service_reject, service_requested};
 
 use crate::Subscriber;
 use crate::acts::Protection;
 use crate::work::Work;
-use mm_messages::Mm;
+use mm_messages::{Mm, ServiceAccept, ServiceReject};
 use nas_base::Memory;
 use nas_base::mm_cause::{IMPLICITLY_DEREGISTERED, UE_IDENTITY_CANNOT_BE_DERIVED_BY_THE_NETWORK};
+
+// SERVICE ACCEPT.
+fn service_accept() -> Mm
+    ensures { result ≡ service_accept }
+{
+    Mm::ServiceAccept(ServiceAccept { status: None })
+}
+
+// SERVICE REJECT with this cause.
+fn service_reject(cause: u8) -> Mm
+    ensures { result ≡ service_reject cause }
+{
+    Mm::ServiceReject(ServiceReject {
+        cause,
+        status: None,
+    })
+}
 
 impl<'a> Work<'a> {
     /// SERVICE REQUEST that passed.
@@ -19,17 +36,10 @@ impl<'a> Work<'a> {
             return self.say(
                 number,
                 Protection::Ciphered(s.supi.copy()),
-                Mm::ServiceAccept { status: None },
+                service_accept(),
             );
         }
-        self.answer_for(
-            s,
-            number,
-            Mm::ServiceReject {
-                cause: IMPLICITLY_DEREGISTERED,
-                status: None,
-            },
-        )
+        self.answer_for(s, number, service_reject(IMPLICITLY_DEREGISTERED))
     }
 
     /// SERVICE REQUEST that didn't pass, before secure exchange.
@@ -39,10 +49,7 @@ impl<'a> Work<'a> {
     {
         self.answer(
             number,
-            Mm::ServiceReject {
-                cause: UE_IDENTITY_CANNOT_BE_DERIVED_BY_THE_NETWORK,
-                status: None,
-            },
+            service_reject(UE_IDENTITY_CANNOT_BE_DERIVED_BY_THE_NETWORK),
         )
     }
 }

@@ -6,15 +6,46 @@ ghost use Rattle.amf_core.specs.State.{unknown_yet, view_of, word_of};
 use crate::requests::{copied, is_guti};
 use crate::{AmfSubscriber, NetView, Procedure};
 use arrayvec::ArrayVec;
-use nas_base::{AmfWord, Ksi, Supi};
+use nas_base::{AmfWord, Ksi, Plmn, Supi};
 use nas_elements::{Capability, Guti, Nssai, Status, Stmsi};
 use nas_security::{Challenge, Context};
 use std::marker::Model;
 
+/// A 5G-GUTI that is kept: a place of `Gutis`. To contracts it is the 5G-GUTI itself.
+#[derive(Drop)]
+pub struct KeptGuti {
+    pub guti: Guti,
+}
+
+impl Model for KeptGuti {
+    ghost use Rattle.nas_elements.specs.declared.guti.Guti.{Guti};
+
+    ghost Value = { Guti };
+
+    ghost view = { λ k. k.guti };
+
+    ghost inverse = { λ g. record { guti = g } };
+}
+
+// A list of a fixed size has a value at each place, also where nothing is kept; none of 5G-GUTIs can stand for nothing, so that
+// `Guti` has no such value, and a place has one of its own, which no list shows.
+impl Default for KeptGuti {
+    fn default() -> KeptGuti {
+        KeptGuti {
+            guti: Guti {
+                plmn: Plmn::from_codes(&[0, 0, 1], &[0, 1]).unwrap(),
+                region: 0,
+                set_pointer: 0,
+                tmsi: 0,
+            },
+        }
+    }
+}
+
 /// The 5G-GUTIs that are kept for a subscriber, at most two, the older one first.
 #[derive(Drop)]
 pub struct Gutis {
-    pub items: ArrayVec<Guti, 2>,
+    pub items: ArrayVec<KeptGuti, 2>,
 }
 
 impl Model for Gutis {
@@ -57,9 +88,16 @@ pub struct Subscriber {
     pub status: Status,
 }
 
+// Whether a 5G-S-TMSI is short for a 5G-GUTI.
+fn is_short_for(stmsi: &Stmsi, guti: &Guti) -> bool
+    ensures { result ≡ is_short_for stmsi.now guti.now }
+{
+    stmsi.set_pointer == guti.set_pointer && stmsi.tmsi == guti.tmsi
+}
+
 impl Gutis {
     /// None.
-    pub fn none() -> Gutis
+    pub fn new() -> Gutis
         ensures { result ≡ [] }
     {
         Gutis {
@@ -68,26 +106,26 @@ impl Gutis {
     }
 
     /// One alone.
-    pub fn one(guti: Guti) -> Gutis
+    pub fn from_one(guti: Guti) -> Gutis
         ensures { result ≡ guti ∷ [] }
     {
         let mut items = ArrayVec::new();
-        items.push(guti);
+        items.push(KeptGuti { guti });
         Gutis { items }
     }
 
     /// Two, the older one first.
-    pub fn two(older: Guti, newer: Guti) -> Gutis
+    pub fn from_two(older: Guti, newer: Guti) -> Gutis
         ensures { result ≡ older ∷ newer ∷ [] }
     {
         let mut items = ArrayVec::new();
-        items.push(older);
-        items.push(newer);
+        items.push(KeptGuti { guti: older });
+        items.push(KeptGuti { guti: newer });
         Gutis { items }
     }
 
     /// Those that are kept, in order.
-    pub fn as_slice(&self) -> &[Guti]
+    pub fn as_slice(&self) -> &[KeptGuti]
         ensures { result.now ≡ self.now }
     {
         self.items.as_slice()
@@ -98,7 +136,7 @@ impl Gutis {
         ensures { result ≡ is_any (is_guti guti.now) self.now }
     {
         for kept in self.items.as_slice() {
-            if is_guti(guti, kept) {
+            if is_guti(guti, &kept.guti) {
                 return true;
             }
         }
@@ -110,7 +148,7 @@ impl Gutis {
         ensures { result ≡ is_any (is_short_for stmsi.now) self.now }
     {
         for kept in self.items.as_slice() {
-            if stmsi.set_pointer == kept.set_pointer && stmsi.tmsi == kept.tmsi {
+            if is_short_for(stmsi, &kept.guti) {
                 return true;
             }
         }
@@ -122,9 +160,9 @@ impl Gutis {
         ensures { result ≡ self.now }
     {
         match self.items.as_slice() {
-            [] => Gutis::none(),
-            [one] => Gutis::one(one.copy()),
-            [older, newer, ..] => Gutis::two(older.copy(), newer.copy()),
+            [] => Gutis::new(),
+            [one] => Gutis::from_one(one.guti.copy()),
+            [older, newer, ..] => Gutis::from_two(older.guti.copy(), newer.guti.copy()),
         }
     }
 }
@@ -152,7 +190,7 @@ impl Subscriber {
             slices: config.slices.copy(),
             in_use: None,
             procedure: Procedure::Idle,
-            kept: Gutis::none(),
+            kept: Gutis::new(),
             offered: None,
             registered: false,
             completed: false,

@@ -5,10 +5,9 @@ ghost use Rattle.amf_core.specs.Transport.{brought_down, not_forwarded, session_
 use crate::acts::Protection;
 use crate::work::Work;
 use crate::{SmfAsk, Subscriber};
-use mm_messages::Mm;
+use mm_messages::{DlNasTransport, Mm, UlNasTransport};
 use nas_base::mm_cause::PAYLOAD_WAS_NOT_FORWARDED;
 use nas_base::{Memory, Octets, Psi};
-use nas_elements::{Dnn, Slice};
 use nas_layout::Half;
 use nas_security::Challenge;
 
@@ -33,23 +32,21 @@ impl<'a> Work<'a> {
     // A container that goes back.
     fn not_forwarded(
         &mut self,
+        transport: UlNasTransport,
         number: u16,
-        container_type: Half,
-        container: Octets,
-        psi: Option<u8>,
         s: &Subscriber,
     ) -> Result<(), Memory>
-        ensures { OnOk result (self.new ≡ not_forwarded number container_type container psi s.now self.old) }
+        ensures { OnOk result (self.new ≡ not_forwarded transport number s.now self.old) }
     {
         self.say(
             number,
             Protection::Ciphered(s.supi.copy()),
-            Mm::DlNasTransport {
-                container_type,
-                container,
-                psi,
+            Mm::DlNasTransport(DlNasTransport {
+                container_type: transport.container_type,
+                container: transport.container,
+                psi: transport.psi,
                 cause: Some(PAYLOAD_WAS_NOT_FORWARDED),
-            },
+            }),
         )
     }
 
@@ -57,27 +54,23 @@ impl<'a> Work<'a> {
     #[tactic(auto, unfolding(crate::specs::Transport::transported, nas_base::specs::Branches::per))]
     pub fn transported(
         &mut self,
+        transport: UlNasTransport,
         number: u16,
         challenge: Challenge,
-        container_type: Half,
-        container: Octets,
-        psi: Option<u8>,
-        slice: Option<Slice>,
-        dnn: Option<Dnn>,
         s: &Subscriber,
     ) -> Result<(), Memory>
-        ensures { OnOk result (self.new ≡ transported number challenge container_type container psi slice dnn s.now self.old) }
+        ensures { OnOk result (self.new ≡ transported transport number challenge s.now self.old) }
     {
-        let Some(session) = session_of(container_type, psi) else {
-            return self.not_forwarded(number, container_type, container, psi, s);
+        let Some(psi) = session_of(transport.container_type, transport.psi) else {
+            return self.not_forwarded(transport, number, s);
         };
         self.ask(
             SmfAsk::Frame {
-                psi: session,
+                psi,
                 challenge,
-                dnn,
-                slice,
-                octets: container,
+                dnn: transport.dnn,
+                slice: transport.slice,
+                octets: transport.container,
             },
             s,
         )
@@ -91,12 +84,12 @@ impl<'a> Work<'a> {
         self.say_on(
             s.link,
             Protection::Ciphered(s.supi.copy()),
-            Mm::DlNasTransport {
+            Mm::DlNasTransport(DlNasTransport {
                 container_type: N1_SM,
                 container: frame,
                 psi: Some(psi.0),
                 cause: None,
-            },
+            }),
         )
     }
 }

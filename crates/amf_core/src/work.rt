@@ -5,7 +5,7 @@ ghost use Rattle.amf_core.specs.Work.{answer, answer_for, ask, by_link, own_prot
 use crate::acts::{Act, Acts, Protection};
 use crate::draft::Draft;
 use crate::{AmfOut, Link, SmfAsk, SmfCall, Subscriber};
-use mm_messages::Mm;
+use mm_messages::{FiveGmmStatus, Mm, RegistrationReject};
 use nas_base::{Memory, Moment, Supi};
 use nas_timers::{TimerId, deadline_after};
 
@@ -117,14 +117,14 @@ impl<'a> Work<'a> {
     pub fn status(&mut self, number: u16, cause: u8) -> Result<(), Memory>
         ensures { OnOk result (self.new ≡ status number cause self.old) }
     {
-        self.answer(number, Mm::FiveGmmStatus { cause })
+        self.answer(number, Mm::FiveGmmStatus(FiveGmmStatus { cause }))
     }
 
     /// REGISTRATION REJECT with this cause.
     pub fn reject(&mut self, number: u16, cause: u8) -> Result<(), Memory>
         ensures { OnOk result (self.new ≡ reject number cause self.old) }
     {
-        self.answer(number, Mm::RegistrationReject { cause })
+        self.answer(number, Mm::RegistrationReject(RegistrationReject { cause }))
     }
 
     /// An answer that belongs to the procedure of a subscriber.

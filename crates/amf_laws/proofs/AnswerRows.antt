@@ -1,9 +1,13 @@
 -- The moves of answers to challenges, of service requests and of transports, of one subscriber.
 use Rattle.std.proofs.Common.{◌≡◌, refl, sym, ap, subst, ◌∙◌, ◌==◌, ◌||◌, ℕ, Bool, true, false, List, Option, Some, None}
 use Rattle.milenage.specs.Home.{resync_of}
-use Rattle.nas_elements.specs.declared.slice.Slice.{Slice}
+use Rattle.nas_base.specs.declared.mm_cause.TheConstants as cause
 use Rattle.nas_security.specs.Contexts.{SecurityContext}
 use Rattle.nas_security.specs.declared.challenges.Challenge.{Challenge}
+use Rattle.mm_messages.specs.declared.authentication.AuthenticationFailure.{AuthenticationFailure}
+use Rattle.mm_messages.specs.declared.authentication.AuthenticationResponse.{AuthenticationResponse}
+use Rattle.mm_messages.specs.declared.security_mode.SecurityModeComplete.{SecurityModeComplete}
+use Rattle.mm_messages.specs.declared.transport.UlNasTransport.{UlNasTransport}
 use Rattle.amf_core.specs.Authentication.{answered, asking_in, asking_on, authentication_failed, authentication_rejected, commanding, failed_by, is_expected, next_link, responded, resynchronised}
 use Rattle.amf_core.specs.Challenges.{challenge_open, ended}
 use Rattle.amf_core.specs.Drafts.{is_right}
@@ -46,20 +50,20 @@ rejected_moves : {May : List ℕ → Type 0} {b : Beginning} {q : Running} {w : 
     → Moves May b (running_in s.procedure) q w → Moves May b none_runs none_runs (authentication_rejected number s w)
 rejected_moves {May} {b} {q} {w} number s e h = said number _ _ (by_link_may May (link_of number (ended s w)) s.supi e.2) (ended_moves s e h)
 
-answered_settles : {May : List ℕ → Type 0} {b : Beginning} {w : Work} (number : ℕ) (res_star : Option (List ℕ)) (o : Asking) (s : Subscriber) → Own May b s
+answered_settles : {May : List ℕ → Type 0} {b : Beginning} {w : Work} (m : AuthenticationResponse) (number : ℕ) (o : Asking) (s : Subscriber) → Own May b s
     → running_in s.procedure ≡ challenge_runs
-    → Moves May b (running_in s.procedure) (running_in s.procedure) w → Settled May b (answered number res_star o s w)
-answered_settles {May} {b} {w} number res_star o s e runs h =
-    when_holds (λ (x : Work). Settled May b x) (is_expected res_star o.auth) _ _
+    → Moves May b (running_in s.procedure) (running_in s.procedure) w → Settled May b (answered m number o s w)
+answered_settles {May} {b} {w} m number o s e runs h =
+    when_holds (λ (x : Work). Settled May b x) (is_expected m.res_star o.auth) _ _
     (λ _. settled (challenge_put_moves (commanding o) (challenge_open (commanding o) s) e (told_as _ challenge_runs runs h)))
     (λ _. settled (rejected_moves number s e h))
 
-pub responded_settles : {May : List ℕ → Type 0} {b : Beginning} {w : Work} (number : ℕ) (res_star : Option (List ℕ)) (s : Subscriber) → Own May b s
-    → Moves May b (running_in s.procedure) (running_in s.procedure) w → Settled May b (responded number res_star s w)
+pub responded_settles : {May : List ℕ → Type 0} {b : Beginning} {w : Work} (m : AuthenticationResponse) (number : ℕ) (s : Subscriber) → Own May b s
+    → Moves May b (running_in s.procedure) (running_in s.procedure) w → Settled May b (responded m number s w)
 unfolding responded
-responded_settles {May} {b} {w} number res_star s e h =
+responded_settles {May} {b} {w} m number s e h =
     per_holds (λ (x : Work). Settled May b x) (asking_on number s.procedure) w _ (λ _. settled h)
-    (λ o is. answered_settles number res_star o s e (asking_runs number s.procedure o is) h)
+    (λ o is. answered_settles m number o s e (asking_runs number s.procedure o is) h)
 
 -- the link of who is asked
 asking_link : (phase : Phase) (c : Challenging) (o : Asking) → asking_in phase c ≡ Some o → c.link ≡ o.challenging.link
@@ -101,23 +105,23 @@ resynchronised_settles {May} {b} {w} auts o s e may h =
     when_holds (λ (x : Work). Settled May b x) (is_right (resync_of s.supi o.auth.challenge.rand auts (home_of w))) _ w
     (λ _. challenge_settles _ _ None s e may (homes _ h)) (λ _. settled h)
 
-failed_by_settles : {May : List ℕ → Type 0} {b : Beginning} {w : Work} (cause : ℕ) (auts : Option (List ℕ)) (number : ℕ) (o : Asking) (s : Subscriber) → Own May b s
+failed_by_settles : {May : List ℕ → Type 0} {b : Beginning} {w : Work} (m : AuthenticationFailure) (number : ℕ) (o : Asking) (s : Subscriber) → Own May b s
     → MayRefuse May o.challenging.purpose (next_link o.challenging.purpose o.challenging s) (links_now w)
-    → Moves May b (running_in s.procedure) (running_in s.procedure) w → Settled May b (failed_by cause auts number o s w)
-failed_by_settles {May} {b} {w} cause auts number o s e may h =
-    when_holds (λ (x : Work). Settled May b x) (cause == 20 || cause == 26) _ _
+    → Moves May b (running_in s.procedure) (running_in s.procedure) w → Settled May b (failed_by m number o s w)
+failed_by_settles {May} {b} {w} m number o s e may h =
+    when_holds (λ (x : Work). Settled May b x) (m.cause == cause.MAC_FAILURE || m.cause == cause.NON_5G_AUTHENTICATION_UNACCEPTABLE) _ _
     (λ _. settled (rejected_moves number s e h))
-    (λ _. when_holds (λ (x : Work). Settled May b x) (cause == 21) _ _
-    (λ _. per_holds (λ (x : Work). Settled May b x) auts w _ (λ _. settled h) (λ octets _. resynchronised_settles octets o s e may h))
-    (λ _. when_holds (λ (x : Work). Settled May b x) (cause == 71) _ w
+    (λ _. when_holds (λ (x : Work). Settled May b x) (m.cause == cause.SYNCH_FAILURE) _ _
+    (λ _. per_holds (λ (x : Work). Settled May b x) m.auts w _ (λ _. settled h) (λ auts _. resynchronised_settles auts o s e may h))
+    (λ _. when_holds (λ (x : Work). Settled May b x) (m.cause == cause.NGKSI_ALREADY_IN_USE) _ w
     (λ _. challenge_settles _ _ None s e may h) (λ _. settled h)))
 
-pub failed_settles : {May : List ℕ → Type 0} {b : Beginning} {w : Work} (number cause : ℕ) (auts : Option (List ℕ)) (s : Subscriber) → Own May b s
-    → MayLink May number (links_now w) → Moves May b (running_in s.procedure) (running_in s.procedure) w → Settled May b (authentication_failed number cause auts s w)
+pub failed_settles : {May : List ℕ → Type 0} {b : Beginning} {w : Work} (m : AuthenticationFailure) (number : ℕ) (s : Subscriber) → Own May b s
+    → MayLink May number (links_now w) → Moves May b (running_in s.procedure) (running_in s.procedure) w → Settled May b (authentication_failed m number s w)
 unfolding authentication_failed
-failed_settles {May} {b} {w} number cause auts s e link h =
+failed_settles {May} {b} {w} m number s e link h =
     per_holds (λ (x : Work). Settled May b x) (asking_on number s.procedure) w _ (λ _. settled h)
-    (λ o is. failed_by_settles cause auts number o s e
+    (λ o is. failed_by_settles m number o s e
     (again_may May number (links_now w) o.challenging.purpose o.challenging s (asking_link_is number s.procedure o is) link) h)
 
 -- the answers to SECURITY MODE COMMAND
@@ -137,12 +141,12 @@ purpose_settles {May} {b} {w} (Registration r) whole number context s e h =
     per_holds (λ (x : Work). Settled May b x) whole w _ (λ _. settled h) (λ q _. goes_on_settles number r q context s e h)
 purpose_settles Command whole number context s e h = settled h
 
-pub mode_completed_settles : {May : List ℕ → Type 0} {b : Beginning} {w : Work} (number : ℕ) (message : Option (List ℕ)) (s : Subscriber) → Own May b s
-    → Moves May b (running_in s.procedure) (running_in s.procedure) w → Settled May b (mode_completed number message s w)
+pub mode_completed_settles : {May : List ℕ → Type 0} {b : Beginning} {w : Work} (m : SecurityModeComplete) (number : ℕ) (s : Subscriber) → Own May b s
+    → Moves May b (running_in s.procedure) (running_in s.procedure) w → Settled May b (mode_completed m number s w)
 unfolding mode_completed
-mode_completed_settles {May} {b} {w} number message s e h =
+mode_completed_settles {May} {b} {w} m number s e h =
     per_holds (λ (x : Work). Settled May b x) (commanding_of s.procedure) w _ (λ _. settled h)
-    (λ o _. purpose_settles o.challenging.purpose (whole_in message s) number o.context (in_use o.context s) e (switched_moves o s e h))
+    (λ o _. purpose_settles o.challenging.purpose (whole_in m.message s) number o.context (in_use o.context s) e (switched_moves o s e h))
 
 -- service requests, and 5GSM messages
 pub service_settles : {May : List ℕ → Type 0} {b : Beginning} {w : Work} (number : ℕ) (s : Subscriber) → Own May b s
@@ -152,13 +156,11 @@ service_settles {May} {b} {w} number s e h =
     when_holds (λ (x : Work). Settled May b x) s.registered _ _ (λ _. settled (said number (Ciphered s.supi) _ e.2 h))
     (λ _. settled (said number _ _ (by_link_may May (link_of number w) s.supi e.2) h))
 
-pub transported_settles : {May : List ℕ → Type 0} {b : Beginning} {w : Work} (number : ℕ) (challenge : Challenge) (container_type : ℕ) (container : List ℕ) (psi : Option ℕ)
-    (slice : Option Slice) (dnn : Option (List ℕ)) (s : Subscriber) → Own May b s
-    → Moves May b (running_in s.procedure) (running_in s.procedure) w
-    → Settled May b (transported number challenge container_type container psi slice dnn s w)
+pub transported_settles : {May : List ℕ → Type 0} {b : Beginning} {w : Work} (m : UlNasTransport) (number : ℕ) (challenge : Challenge) (s : Subscriber) → Own May b s
+    → Moves May b (running_in s.procedure) (running_in s.procedure) w → Settled May b (transported m number challenge s w)
 unfolding transported
-transported_settles {May} {b} {w} number challenge container_type container psi slice dnn s e h =
-    per_holds (λ (x : Work). Settled May b x) (session_of container_type psi) _ _ (λ _. settled (said number (Ciphered s.supi) _ e.2 h)) (λ n _. settled (asked _ s h))
+transported_settles {May} {b} {w} m number challenge s e h =
+    per_holds (λ (x : Work). Settled May b x) (session_of m.container_type m.psi) _ _ (λ _. settled (said number (Ciphered s.supi) _ e.2 h)) (λ n _. settled (asked _ s h))
 
 pub brought_down_moves : {May : List ℕ → Type 0} {b : Beginning} {p q : Running} {w : Work} (psi : ℕ) (frame : List ℕ) (s : Subscriber) → Own May b s
     → Moves May b p q w → Moves May b p q (brought_down psi frame s w)

@@ -1,5 +1,5 @@
 -- The rows that octets come to.
-use Rattle.std.proofs.Common.{◌≡◌, refl, sym, ap, subst, ◌∙◌, ◌==◌, ◌||◌, inl, inr, ℕ, Bool, true, not, List, drop, length, nat_lt, Option, Some, None, Result, Ok, Err}
+use Rattle.std.proofs.Common.{◌≡◌, refl, sym, ap, subst, ◌∙◌, ◌==◌, ◌||◌, inl, inr, ℕ, true, not, List, drop, length, nat_lt, Option, Some, None, Result, Ok, Err}
 use Rattle.nas_base.specs.Branches.{per}
 use Rattle.nas_elements.specs.Suci.{SuciParts}
 use Rattle.nas_elements.specs.declared.identity.Identity.{Identity}
@@ -10,15 +10,17 @@ use Rattle.collision_rules.specs.declared.action.Action.TheVariants.{Take, Disca
 use Rattle.mm_messages.specs.KindOf.{kind_of}
 use Rattle.mm_messages.specs.Messages.{mm_in}
 use Rattle.mm_messages.specs.declared.message.Mm.{Mm}
-use Rattle.mm_messages.specs.declared.message.Mm.TheVariants.{RegistrationRequest, RegistrationAccept, RegistrationComplete, RegistrationReject, DeregistrationRequestUeOriginating, DeregistrationAcceptUeOriginating, DeregistrationRequestUeTerminated, DeregistrationAcceptUeTerminated, ServiceRequest, ServiceReject, ServiceAccept, ConfigurationUpdateCommand, ConfigurationUpdateComplete, AuthenticationRequest, AuthenticationResponse, AuthenticationReject, AuthenticationFailure, IdentityRequest, IdentityResponse, SecurityModeCommand, SecurityModeComplete, SecurityModeReject, FiveGmmStatus, UlNasTransport, DlNasTransport}
+use Rattle.mm_messages.specs.declared.message.Mm.TheVariants as mm
 use Rattle.mm_messages.specs.declared.message.MmRefusal.{MmRefusal}
 use Rattle.mm_messages.specs.declared.message.MmRefusal.TheVariants as refusals
-use Rattle.mm_messages.specs.declared.registration.RegistrationType.{RegistrationType}
+use Rattle.mm_messages.specs.declared.identification.IdentityResponse.{IdentityResponse}
+use Rattle.mm_messages.specs.declared.registration.RegistrationRequest.{RegistrationRequest}
+use Rattle.mm_messages.specs.declared.security_mode.SecurityModeComplete.{SecurityModeComplete}
 use Rattle.amf_core.specs.Authentication.{authentication_failed, responded}
 use Rattle.amf_core.specs.Checks.{Passage, checked_in_use, checked_pending, noted}
 use Rattle.amf_core.specs.Delivery.{action, by_table, check_of, ciphered, failed, failed_request, five_gmm_status, header_of, integrity_protected, is_mm, is_permitted_type, message_of, named_inside, of_link, passed, passed_read, passing, plain, plain_read, received, sender, taken, taken_plain, type_of, under_new_context}
 use Rattle.amf_core.specs.Deregistration.{deregistration_accepted}
-use Rattle.amf_core.specs.Identification.{identity_told, waited}
+use Rattle.amf_core.specs.Identification.{identity_told, told_by, waited}
 use Rattle.amf_core.specs.Naming.{keeper, kept_for, named_by_suci, suci_digits}
 use Rattle.amf_core.specs.Registration.{is_emergency, registration_requested, request_by_guti, request_by_identity, request_by_suci}
 use Rattle.amf_core.specs.SecurityMode.{mode_rejected}
@@ -77,23 +79,23 @@ by_guti_chain {May} {u} {w} number passed r found is may link h =
     per_holds (λ (x : Work). Chain May u x) found _ _ (λ _. answers number _ (waits_link May number (Some r) w link) (waits number _ (Some r) h))
     (λ s e. does s (is s e) (may s e) (requested_settles number passed r s (refl, λ few. few, may s e) link here) h)
 
-by_identity_chain : {May : List ℕ → Type 0} {u : Received} {w : Work} (number : ℕ) (passed : Option (List ℕ)) (registration : RegistrationType) (ksi : ℕ)
-    (identity : Identity) (capability : Option (List ℕ)) (told : Option (List Bool)) → MayNamed May (names identity w) → MayLink May number (links_now w)
-    → Chain May u w → Chain May u (request_by_identity number passed registration ksi identity capability told w)
-by_identity_chain {May} {u} {w} number passed registration ksi (identities.Suci x) capability told may link h =
+by_identity_chain : {May : List ℕ → Type 0} {u : Received} {w : Work} (identity : Identity) (m : RegistrationRequest) (number : ℕ) (passed : Option (List ℕ))
+    → MayNamed May (names identity w) → MayLink May number (links_now w)
+    → Chain May u w → Chain May u (request_by_identity identity m number passed w)
+by_identity_chain {May} {u} {w} (identities.Suci x) m number passed may link h =
     by_suci_chain number passed _ (named_by_suci x w) (found_is_current (suci_digits x) w) may link h
-by_identity_chain {May} {u} {w} number passed registration ksi (identities.Guti g) capability told may link h =
+by_identity_chain {May} {u} {w} (identities.Guti g) m number passed may link h =
     by_guti_chain number passed _ (keeper g w) (keeper_is_current g w) may link h
-by_identity_chain number passed registration ksi (identities.Stmsi t) capability told may link h = answers number _ link h
-by_identity_chain number passed registration ksi (identities.Other octets) capability told may link h = answers number _ link h
+by_identity_chain (identities.Stmsi t) m number passed may link h = answers number _ link h
+by_identity_chain (identities.Other octets) m number passed may link h = answers number _ link h
 
-registration_chain : {May : List ℕ → Type 0} {u : Received} {w : Work} (number : ℕ) (passed : Option (List ℕ)) (registration : RegistrationType) (ksi : ℕ)
-    (identity : Identity) (capability : Option (List ℕ)) (told : Option (List Bool)) → MayNamed May (names identity w) → MayLink May number (links_now w)
-    → Chain May u w → Chain May u (registration_requested number passed registration ksi identity capability told w)
+registration_chain : {May : List ℕ → Type 0} {u : Received} {w : Work} (m : RegistrationRequest) (number : ℕ) (passed : Option (List ℕ))
+    → MayNamed May (names m.identity w) → MayLink May number (links_now w)
+    → Chain May u w → Chain May u (registration_requested m number passed w)
 unfolding registration_requested
-registration_chain {May} {u} {w} number passed registration ksi identity capability told may link h =
-    when_holds (λ (x : Work). Chain May u x) (is_emergency registration) _ _ (λ _. answers number _ link h)
-    (λ _. by_identity_chain number passed registration ksi identity capability told may link h)
+registration_chain {May} {u} {w} m number passed may link h =
+    when_holds (λ (x : Work). Chain May u x) (is_emergency m.registration) _ _ (λ _. answers number _ link h)
+    (λ _. by_identity_chain m.identity m number passed may link h)
 
 -- an identity that was asked for
 waited_chain : {May : List ℕ → Type 0} {u : Received} {w : Work} (number : ℕ) (x : SuciParts) (r : Request) → MayNamed May (named_by_suci x w)
@@ -103,68 +105,73 @@ unfolding put_link
 waited_chain {May} {u} {w} number x r may link h =
     by_suci_chain number None r (named_by_suci x w) (λ s e. found_is_current (suci_digits x) _ s e) may (waits_link May number None w link) (waits number _ None h)
 
-identity_chain : {May : List ℕ → Type 0} {u : Received} {w : Work} (number : ℕ) (identity : Identity) → MayNamed May (names identity w)
+told_chain : {May : List ℕ → Type 0} {u : Received} {w : Work} (identity : Identity) (number : ℕ) → MayNamed May (names identity w)
     → MayLink May number (links_now w)
-    → Chain May u w → Chain May u (identity_told number identity w)
-unfolding identity_told
-identity_chain {May} {u} {w} number (identities.Suci x) may link h =
+    → Chain May u w → Chain May u (told_by identity number w)
+told_chain {May} {u} {w} (identities.Suci x) number may link h =
     per_holds (λ (y : Work). Chain May u y) (link_of number w).waiting w _ (λ _. h) (λ r _. waited_chain number x r may link h)
-identity_chain number (identities.Guti g) may link h = h
-identity_chain number (identities.Stmsi t) may link h = h
-identity_chain number (identities.Other octets) may link h = h
+told_chain (identities.Guti g) number may link h = h
+told_chain (identities.Stmsi t) number may link h = h
+told_chain (identities.Other octets) number may link h = h
+
+identity_chain : {May : List ℕ → Type 0} {u : Received} {w : Work} (m : IdentityResponse) (number : ℕ) → MayNamed May (names m.identity w)
+    → MayLink May number (links_now w)
+    → Chain May u w → Chain May u (identity_told m number w)
+unfolding identity_told
+identity_chain m number may link h = told_chain m.identity number may link h
 
 -- whom a message names, of those that its row looks for
 abbrev pub named_by : Mm → Work → Option Subscriber
-named_by (RegistrationRequest registration ksi identity capability told) w = names identity w
-named_by (IdentityResponse identity) w = names identity w
+named_by (mm.RegistrationRequest m) w = names m.identity w
+named_by (mm.IdentityResponse m) w = names m.identity w
 named_by message w = None
 
 -- the row of a message that passed
-when_pending : {May : List ℕ → Type 0} {u : Received} {w : Work} (number : ℕ) (c : Check) (message : Option (List ℕ)) → IsCurrent c.subscriber w
+when_pending : {May : List ℕ → Type 0} {u : Received} {w : Work} (m : SecurityModeComplete) (number : ℕ) (c : Check) → IsCurrent c.subscriber w
     → May c.subscriber.supi → MayLink May number (links_now w)
-    → Chain May u w → Chain May u (taken number c (SecurityModeComplete message) w)
+    → Chain May u w → Chain May u (taken number c (mm.SecurityModeComplete m) w)
 unfolding taken
-when_pending {May} {u} {w} number c message is may link h =
+when_pending {May} {u} {w} m number c is may link h =
     when_holds (λ (x : Work). Chain May u x) c.is_pending _ w
-    (λ _. does c.subscriber is may (mode_completed_settles number message c.subscriber (refl, λ few. few, may) here) h) (λ _. h)
+    (λ _. does c.subscriber is may (mode_completed_settles m number c.subscriber (refl, λ few. few, may) here) h) (λ _. h)
 
 taken_chain : {May : List ℕ → Type 0} {u : Received} {w : Work} (number : ℕ) (c : Check) (m : Mm) → IsCurrent c.subscriber w → May c.subscriber.supi → MayNamed May (named_by m w) → MayLink May number (links_now w)
     → Chain May u w → Chain May u (taken number c m w)
 unfolding taken
-taken_chain number c (RegistrationRequest registration ksi identity capability told) is may named link h =
-    registration_chain number (Some c.subscriber.supi) registration ksi identity capability told named link h
-taken_chain number c RegistrationComplete is may named link h =
+taken_chain number c (mm.RegistrationRequest m) is may named link h =
+    registration_chain m number (Some c.subscriber.supi) named link h
+taken_chain number c mm.RegistrationComplete is may named link h =
     does c.subscriber is may (completed_settles c.challenge c.subscriber (refl, λ few. few, may) here) h
-taken_chain number c (DeregistrationRequestUeOriginating switch_off ksi identity) is may named link h =
-    does c.subscriber is may (deregistration_requested_settles number switch_off c.subscriber (refl, λ few. few, may) here) h
-taken_chain number c DeregistrationAcceptUeTerminated is may named link h =
+taken_chain number c (mm.DeregistrationRequestUeOriginating m) is may named link h =
+    does c.subscriber is may (deregistration_requested_settles m number c.subscriber (refl, λ few. few, may) here) h
+taken_chain number c mm.DeregistrationAcceptUeTerminated is may named link h =
     does c.subscriber is may (deregistration_accepted_settles number c.subscriber (refl, λ few. few, may) here) h
-taken_chain number c (ServiceRequest ksi service_type identity told) is may named link h =
+taken_chain number c (mm.ServiceRequest m) is may named link h =
     does c.subscriber is may (service_settles number c.subscriber (refl, λ few. few, may) here) h
-taken_chain number c (AuthenticationResponse res_star) is may named link h =
-    does c.subscriber is may (responded_settles number res_star c.subscriber (refl, λ few. few, may) here) h
-taken_chain number c (AuthenticationFailure cause auts) is may named link h =
-    does c.subscriber is may (failed_settles number cause auts c.subscriber (refl, λ few. few, may) link here) h
-taken_chain number c (IdentityResponse identity) is may named link h = identity_chain number identity named link h
-taken_chain number c (SecurityModeComplete message) is may named link h = when_pending number c message is may link h
-taken_chain number c (SecurityModeReject cause) is may named link h =
+taken_chain number c (mm.AuthenticationResponse m) is may named link h =
+    does c.subscriber is may (responded_settles m number c.subscriber (refl, λ few. few, may) here) h
+taken_chain number c (mm.AuthenticationFailure m) is may named link h =
+    does c.subscriber is may (failed_settles m number c.subscriber (refl, λ few. few, may) link here) h
+taken_chain number c (mm.IdentityResponse m) is may named link h = identity_chain m number named link h
+taken_chain number c (mm.SecurityModeComplete m) is may named link h = when_pending m number c is may link h
+taken_chain number c (mm.SecurityModeReject m) is may named link h =
     does c.subscriber is may (mode_rejected_settles number c.subscriber (refl, λ few. few, may) here) h
-taken_chain number c (UlNasTransport container_type container psi request_type slice dnn) is may named link h =
-    does c.subscriber is may (transported_settles number c.challenge container_type container psi slice dnn c.subscriber (refl, λ few. few, may) here) h
-taken_chain number c (RegistrationAccept result guti tai_list nssai told t3512) is may named link h = h
-taken_chain number c (RegistrationReject cause) is may named link h = h
-taken_chain number c DeregistrationAcceptUeOriginating is may named link h = h
-taken_chain number c (DeregistrationRequestUeTerminated switch_off cause) is may named link h = h
-taken_chain number c (ServiceReject cause told) is may named link h = h
-taken_chain number c (ServiceAccept told) is may named link h = h
-taken_chain number c (ConfigurationUpdateCommand indication guti) is may named link h = h
-taken_chain number c ConfigurationUpdateComplete is may named link h = h
-taken_chain number c (AuthenticationRequest ksi abba rand autn) is may named link h = h
-taken_chain number c AuthenticationReject is may named link h = h
-taken_chain number c (IdentityRequest identity_type) is may named link h = h
-taken_chain number c (SecurityModeCommand algs ksi capability information) is may named link h = h
-taken_chain number c (FiveGmmStatus cause) is may named link h = h
-taken_chain number c (DlNasTransport container_type container psi cause) is may named link h = h
+taken_chain number c (mm.UlNasTransport m) is may named link h =
+    does c.subscriber is may (transported_settles m number c.challenge c.subscriber (refl, λ few. few, may) here) h
+taken_chain number c (mm.RegistrationAccept m) is may named link h = h
+taken_chain number c (mm.RegistrationReject m) is may named link h = h
+taken_chain number c mm.DeregistrationAcceptUeOriginating is may named link h = h
+taken_chain number c (mm.DeregistrationRequestUeTerminated m) is may named link h = h
+taken_chain number c (mm.ServiceReject m) is may named link h = h
+taken_chain number c (mm.ServiceAccept m) is may named link h = h
+taken_chain number c (mm.ConfigurationUpdateCommand m) is may named link h = h
+taken_chain number c mm.ConfigurationUpdateComplete is may named link h = h
+taken_chain number c (mm.AuthenticationRequest m) is may named link h = h
+taken_chain number c mm.AuthenticationReject is may named link h = h
+taken_chain number c (mm.IdentityRequest m) is may named link h = h
+taken_chain number c (mm.SecurityModeCommand m) is may named link h = h
+taken_chain number c (mm.FiveGmmStatus m) is may named link h = h
+taken_chain number c (mm.DlNasTransport m) is may named link h = h
 
 by_table_chain : {May : List ℕ → Type 0} {u : Received} {w : Work} (a : Action) (number : ℕ) (c : Check) (m : Mm)
     → IsCurrent c.subscriber w → May c.subscriber.supi → MayNamed May (named_by m w)
@@ -262,36 +269,36 @@ of_link_chain {May} {u} {w} number row may done link h =
 taken_plain_chain : {May : List ℕ → Type 0} {u : Received} {w : Work} (number : ℕ) (m : Mm) → ((s : Subscriber) → subscriber_of_link number w ≡ Some s → May s.supi) → MayNamed May (named_by m w) → MayLink May number (links_now w)
     → Chain May u w → Chain May u (taken_plain number m w)
 unfolding taken_plain service_refused
-taken_plain_chain number (RegistrationRequest registration ksi identity capability told) may named link h =
-    registration_chain number None registration ksi identity capability told named link h
-taken_plain_chain number (ServiceRequest ksi service_type identity told) may named link h = answers number _ link h
-taken_plain_chain number (IdentityResponse identity) may named link h = identity_chain number identity named link h
-taken_plain_chain number (AuthenticationResponse res_star) may named link h =
-    of_link_chain number (responded number res_star) may (λ s m. responded_settles number res_star s (refl, λ few. few, m) here) link h
-taken_plain_chain number (AuthenticationFailure cause auts) may named link h =
-    of_link_chain number (authentication_failed number cause auts) may (λ s m. failed_settles number cause auts s (refl, λ few. few, m) link here) link h
-taken_plain_chain number (SecurityModeReject cause) may named link h =
-    of_link_chain number (mode_rejected number) may (λ s m. mode_rejected_settles number s (refl, λ few. few, m) here) link h
-taken_plain_chain number DeregistrationAcceptUeTerminated may named link h =
-    of_link_chain number (deregistration_accepted number) may (λ s m. deregistration_accepted_settles number s (refl, λ few. few, m) here) link h
-taken_plain_chain number RegistrationComplete may named link h = h
-taken_plain_chain number (DeregistrationRequestUeOriginating switch_off ksi identity) may named link h = h
-taken_plain_chain number (SecurityModeComplete message) may named link h = h
-taken_plain_chain number (UlNasTransport container_type container psi request_type slice dnn) may named link h = h
-taken_plain_chain number (RegistrationAccept result guti tai_list nssai told t3512) may named link h = h
-taken_plain_chain number (RegistrationReject cause) may named link h = h
-taken_plain_chain number DeregistrationAcceptUeOriginating may named link h = h
-taken_plain_chain number (DeregistrationRequestUeTerminated switch_off cause) may named link h = h
-taken_plain_chain number (ServiceReject cause told) may named link h = h
-taken_plain_chain number (ServiceAccept told) may named link h = h
-taken_plain_chain number (ConfigurationUpdateCommand indication guti) may named link h = h
-taken_plain_chain number ConfigurationUpdateComplete may named link h = h
-taken_plain_chain number (AuthenticationRequest ksi abba rand autn) may named link h = h
-taken_plain_chain number AuthenticationReject may named link h = h
-taken_plain_chain number (IdentityRequest identity_type) may named link h = h
-taken_plain_chain number (SecurityModeCommand algs ksi capability information) may named link h = h
-taken_plain_chain number (FiveGmmStatus cause) may named link h = h
-taken_plain_chain number (DlNasTransport container_type container psi cause) may named link h = h
+taken_plain_chain number (mm.RegistrationRequest m) may named link h =
+    registration_chain m number None named link h
+taken_plain_chain number (mm.ServiceRequest m) may named link h = answers number _ link h
+taken_plain_chain number (mm.IdentityResponse m) may named link h = identity_chain m number named link h
+taken_plain_chain number (mm.AuthenticationResponse m) may named link h =
+    of_link_chain number (responded m number) may (λ s it. responded_settles m number s (refl, λ few. few, it) here) link h
+taken_plain_chain number (mm.AuthenticationFailure m) may named link h =
+    of_link_chain number (authentication_failed m number) may (λ s it. failed_settles m number s (refl, λ few. few, it) link here) link h
+taken_plain_chain number (mm.SecurityModeReject m) may named link h =
+    of_link_chain number (mode_rejected number) may (λ s it. mode_rejected_settles number s (refl, λ few. few, it) here) link h
+taken_plain_chain number mm.DeregistrationAcceptUeTerminated may named link h =
+    of_link_chain number (deregistration_accepted number) may (λ s it. deregistration_accepted_settles number s (refl, λ few. few, it) here) link h
+taken_plain_chain number mm.RegistrationComplete may named link h = h
+taken_plain_chain number (mm.DeregistrationRequestUeOriginating m) may named link h = h
+taken_plain_chain number (mm.SecurityModeComplete m) may named link h = h
+taken_plain_chain number (mm.UlNasTransport m) may named link h = h
+taken_plain_chain number (mm.RegistrationAccept m) may named link h = h
+taken_plain_chain number (mm.RegistrationReject m) may named link h = h
+taken_plain_chain number mm.DeregistrationAcceptUeOriginating may named link h = h
+taken_plain_chain number (mm.DeregistrationRequestUeTerminated m) may named link h = h
+taken_plain_chain number (mm.ServiceReject m) may named link h = h
+taken_plain_chain number (mm.ServiceAccept m) may named link h = h
+taken_plain_chain number (mm.ConfigurationUpdateCommand m) may named link h = h
+taken_plain_chain number mm.ConfigurationUpdateComplete may named link h = h
+taken_plain_chain number (mm.AuthenticationRequest m) may named link h = h
+taken_plain_chain number mm.AuthenticationReject may named link h = h
+taken_plain_chain number (mm.IdentityRequest m) may named link h = h
+taken_plain_chain number (mm.SecurityModeCommand m) may named link h = h
+taken_plain_chain number (mm.FiveGmmStatus m) may named link h = h
+taken_plain_chain number (mm.DlNasTransport m) may named link h = h
 
 plain_read_chain : {May : List ℕ → Type 0} {u : Received} {w : Work} (read : Result Mm MmRefusal) (number : ℕ) (octets : List ℕ)
     → ((s : Subscriber) → subscriber_of_link number w ≡ Some s → May s.supi)
@@ -323,9 +330,9 @@ named_if (Some m) w = named_by m w
 failed_request_chain : {May : List ℕ → Type 0} {u : Received} {w : Work} (number : ℕ) (m : Mm) → MayNamed May (named_by m w) → MayLink May number (links_now w)
     → Chain May u w → Chain May u (failed_request number m w)
 unfolding service_refused
-failed_request_chain number (RegistrationRequest registration ksi identity capability told) named link h =
-    registration_chain number None registration ksi identity capability told named link h
-failed_request_chain number (ServiceRequest ksi service_type identity told) named link h = answers number _ link h
+failed_request_chain number (mm.RegistrationRequest m) named link h =
+    registration_chain m number None named link h
+failed_request_chain number (mm.ServiceRequest m) named link h = answers number _ link h
 failed_request_chain number m named link h = h
 
 failed_chain : {May : List ℕ → Type 0} {u : Received} {w : Work} (number : ℕ) (m : Option Mm) → MayNamed May (named_if m w) → MayLink May number (links_now w)
@@ -348,9 +355,9 @@ kept_for_is_current (identities.Other octets) w s e = absurd (cc)
 
 inside_is_current : (m : Option Mm) (w : Work) (s : Subscriber) → named_inside m w ≡ Some s → IsCurrent s w
 inside_is_current None w s e = absurd (cc)
-inside_is_current (Some (RegistrationRequest registration ksi identity capability told)) w s e = kept_for_is_current identity w s e
-inside_is_current (Some (ServiceRequest ksi service_type identity told)) w s e = kept_for_is_current identity w s e
-inside_is_current (Some (DeregistrationRequestUeOriginating switch_off ksi identity)) w s e = kept_for_is_current identity w s e
+inside_is_current (Some (mm.RegistrationRequest m)) w s e = kept_for_is_current m.identity w s e
+inside_is_current (Some (mm.ServiceRequest m)) w s e = kept_for_is_current m.identity w s e
+inside_is_current (Some (mm.DeregistrationRequestUeOriginating m)) w s e = kept_for_is_current m.identity w s e
 inside_is_current (Some message) w s e = absurd (cc)
 
 pub sender_is_current : (number : ℕ) (m : Option Mm) (w : Work) (s : Subscriber) → sender number m w ≡ Some s → IsCurrent s w

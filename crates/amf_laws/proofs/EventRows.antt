@@ -2,7 +2,7 @@
 use Rattle.std.proofs.Common.{◌≡◌, refl, ℕ, Bool, true, false, List, None, Result, Ok, Err}
 use Rattle.std.proofs.lemmas.Bool.{and_parts}
 use Rattle.nas_timers.specs.declared.timer_id.TimerId.{TimerId}
-use Rattle.nas_timers.specs.declared.timer_id.TimerId.TheVariants.{T3510, T3516, T3517, T3521, T3522, T3550, T3560, T3580, T3581, T3582, T3591, T3592}
+use Rattle.nas_timers.specs.declared.timer_id.TimerId.TheVariants.{T3510, T3516, T3517, T3521, T3522, T3550, T3555, T3560, T3580, T3581, T3582, T3591, T3592}
 use Rattle.milenage.specs.Home.{challenge_of}
 use Rattle.milenage.specs.declared.home.HomeRefusal.{HomeRefusal}
 use Rattle.milenage.specs.declared.home.HomeRefusal.TheVariants as homes_say
@@ -81,6 +81,7 @@ expired_settles T3510 s e h = settled h
 expired_settles T3516 s e h = settled h
 expired_settles T3517 s e h = settled h
 expired_settles T3521 s e h = settled h
+expired_settles T3555 s e h = settled h
 expired_settles (T3580 psi) s e h = settled h
 expired_settles (T3581 psi) s e h = settled h
 expired_settles (T3582 psi) s e h = settled h

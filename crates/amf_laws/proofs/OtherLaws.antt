@@ -8,7 +8,7 @@ use Rattle.nas_elements.specs.declared.identity.Identity.{Identity}
 use Rattle.nas_elements.specs.declared.identity.Identity.TheVariants as identities
 use Rattle.mm_messages.specs.Messages.{mm_in}
 use Rattle.mm_messages.specs.declared.message.Mm.{Mm}
-use Rattle.mm_messages.specs.declared.message.Mm.TheVariants.{RegistrationRequest, DeregistrationRequestUeOriginating, ServiceRequest, IdentityResponse}
+use Rattle.mm_messages.specs.declared.message.Mm.TheVariants as mm
 use Rattle.mm_messages.specs.declared.message.MmRefusal.{MmRefusal}
 use Rattle.amf_core.specs.Changes.{BeforeState}
 use Rattle.amf_core.specs.Checks.{Passage, checked_in_use, checked_pending, noted, opened, passed_in_use, passed_pending}
@@ -270,18 +270,15 @@ record ByIdentity (m : Mm) (finds : Identity → Option Subscriber) (s : Subscri
   is_found : finds identity ≡ Some s
 
 named_by_identity : (m : Mm) (w : Work) (s : Subscriber) → named_by m w ≡ Some s → ByIdentity m (λ (identity : Identity). names identity w) s
-named_by_identity (RegistrationRequest registration ksi identity capability told) w s e =
-    record { identity = identity; is_told = refl; is_found = e }
-named_by_identity (IdentityResponse identity) w s e = record { identity = identity; is_told = refl; is_found = e }
+named_by_identity (mm.RegistrationRequest m) w s e = record { identity = m.identity; is_told = refl; is_found = e }
+named_by_identity (mm.IdentityResponse m) w s e = record { identity = m.identity; is_told = refl; is_found = e }
 named_by_identity m w s e = absurd (cc)
 
 inside_by_identity : (m : Mm) (w : Work) (s : Subscriber) → named_inside (Some m) w ≡ Some s
     → ByIdentity m (λ (identity : Identity). kept_for identity w) s
-inside_by_identity (RegistrationRequest registration ksi identity capability told) w s e =
-    record { identity = identity; is_told = refl; is_found = e }
-inside_by_identity (ServiceRequest ksi service_type identity told) w s e = record { identity = identity; is_told = refl; is_found = e }
-inside_by_identity (DeregistrationRequestUeOriginating switch_off ksi identity) w s e =
-    record { identity = identity; is_told = refl; is_found = e }
+inside_by_identity (mm.RegistrationRequest m) w s e = record { identity = m.identity; is_told = refl; is_found = e }
+inside_by_identity (mm.ServiceRequest m) w s e = record { identity = m.identity; is_told = refl; is_found = e }
+inside_by_identity (mm.DeregistrationRequestUeOriginating m) w s e = record { identity = m.identity; is_told = refl; is_found = e }
 inside_by_identity m w s e = absurd (cc)
 
 -- octets that passed open to their message

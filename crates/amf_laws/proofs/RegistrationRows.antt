@@ -1,12 +1,13 @@
 -- The moves of registrations of one subscriber, and of de-registrations.
-use Rattle.std.proofs.Common.{◌≡◌, refl, subst, ◌&&◌, ℕ, ◌^◌, Bool, true, nat_lt, List, [], ◌∷◌, arith, Option, Some}
+use Rattle.std.proofs.Common.{◌≡◌, refl, subst, ◌&&◌, ℕ, ◌^◌, true, nat_lt, List, [], ◌∷◌, arith, Option, Some}
 use Rattle.nas_timers.specs.declared.timer_id.TimerId.TheVariants.{T3522, T3550}
 use Rattle.nas_elements.specs.declared.guti.Guti.{Guti}
 use Rattle.nas_security.specs.Contexts.{SecurityContext}
 use Rattle.nas_security.specs.declared.challenges.Challenge.{Challenge}
+use Rattle.mm_messages.specs.declared.deregistration.DeregistrationRequestUeOriginating.{DeregistrationRequestUeOriginating}
 use Rattle.amf_core.specs.Acceptance.{acceptance_ended, confirmed, is_challenge, is_initial, kept_with, new_guti, offered, opened_acceptance, registration_completed, registration_goes_on, released, tmsi_of, told_sessions}
 use Rattle.amf_core.specs.Deregistration.{deregistered, deregistration_accepted, deregistration_put, deregistration_requested, is_deregistering, unregistered}
-use Rattle.amf_core.specs.Registration.{counting_capability, equal_acceptance, is_enough, is_granted, is_on, is_running, request_weighed, requested}
+use Rattle.amf_core.specs.Registration.{counting_capability, equal_acceptance, is_capable, is_granted, is_on, is_running, request_weighed, requested}
 use Rattle.amf_core.specs.Naming.{is_any, is_guti}
 use Rattle.amf_core.specs.Work.{config_of, link_of}
 use Rattle.amf_core.specs.declared.acts.Protection.TheVariants.{Ciphered}
@@ -33,15 +34,15 @@ same_link May number records link n e =
     let one : number ≡ n = cc in subst (λ (k : ℕ). MayLink May k records) one link
 
 -- a request
-weighed_settles : {May : List ℕ → Type 0} {b : Beginning} {w : Work} (number : ℕ) (passed : Option (List ℕ)) (r : Request) (capability : List ℕ) (s : Subscriber)
+weighed_settles : {May : List ℕ → Type 0} {b : Beginning} {w : Work} (number : ℕ) (passed : Option (List ℕ)) (r : Request) (s : Subscriber)
     → Own May b s → MayLink May number (links_now w) → Moves May b (running_in s.procedure) (running_in s.procedure) w
-    → Settled May b (request_weighed number passed r capability s w)
+    → Settled May b (request_weighed number passed r s w)
 unfolding request_weighed
-weighed_settles {May} {b} {w} number passed r capability s e link h =
+weighed_settles {May} {b} {w} number passed r s e link h =
     when_holds (λ (x : Work). Settled May b x) (is_running number r s.procedure) w _ (λ _. settled h)
     (λ _. per_holds (λ (x : Work). Settled May b x) (equal_acceptance r s.procedure) _ _
     (λ _. when_holds (λ (x : Work). Settled May b x) (is_granted passed r s) _ _ (λ _. settled (said number (Ciphered s.supi) _ e.2 h))
-    (λ _. challenge_settles (Registration r) (Some number) (Some capability) s e (same_link May number (links_now w) link) h))
+    (λ _. challenge_settles (Registration r) (Some number) (counting_capability r s) s e (same_link May number (links_now w) link) h))
     (λ a _. settled (said number (Ciphered s.supi) _ e.2 h)))
 
 pub requested_settles : {May : List ℕ → Type 0} {b : Beginning} {w : Work} (number : ℕ) (passed : Option (List ℕ)) (r : Request) (s : Subscriber)
@@ -49,11 +50,9 @@ pub requested_settles : {May : List ℕ → Type 0} {b : Beginning} {w : Work} (
     → Settled May b (requested number passed r s w)
 unfolding requested
 requested_settles {May} {b} {w} number passed r s e link h =
-    per_holds (λ (x : Work). Settled May b x) (counting_capability r s) _ _
+    when_holds (λ (x : Work). Settled May b x) (is_capable r s) _ _
+    (λ _. weighed_settles number passed r s e link h)
     (λ _. settled (said number _ _ (own_protection_may May (link_of number w) link) h))
-    (λ capability _. when_holds (λ (x : Work). Settled May b x) (is_enough capability) _ _
-    (λ _. weighed_settles number passed r capability s e link h)
-    (λ _. settled (said number _ _ (own_protection_may May (link_of number w) link) h)))
 
 -- an acceptance
 released_moves : {May : List ℕ → Type 0} {b : Beginning} {p q : Running} {w : Work} (whole : Whole) (s : Subscriber) → Moves May b p q w → Moves May b p q (released whole s w)
@@ -107,11 +106,11 @@ deregistered_moves : {May : List ℕ → Type 0} {b : Beginning} {q : Running} {
 unfolding deregistered
 deregistered_moves s e h = asked _ s (puts (unregistered s) e (stopped_moves s e h))
 
-pub deregistration_requested_settles : {May : List ℕ → Type 0} {b : Beginning} {w : Work} (number : ℕ) (switch_off : Bool) (s : Subscriber) → Own May b s
-    → Moves May b (running_in s.procedure) (running_in s.procedure) w → Settled May b (deregistration_requested number switch_off s w)
+pub deregistration_requested_settles : {May : List ℕ → Type 0} {b : Beginning} {w : Work} (m : DeregistrationRequestUeOriginating) (number : ℕ) (s : Subscriber) → Own May b s
+    → Moves May b (running_in s.procedure) (running_in s.procedure) w → Settled May b (deregistration_requested m number s w)
 unfolding deregistration_requested
-deregistration_requested_settles {May} {b} {w} number switch_off s e h =
-    when_holds (λ (x : Work). Settled May b x) switch_off _ _ (λ _. settled (deregistered_moves s e h))
+deregistration_requested_settles {May} {b} {w} m number s e h =
+    when_holds (λ (x : Work). Settled May b x) m.switch_off _ _ (λ _. settled (deregistered_moves s e h))
     (λ _. settled (said number (Ciphered s.supi) _ e.2 (deregistered_moves s e h)))
 
 pub deregistration_accepted_settles : {May : List ℕ → Type 0} {b : Beginning} {w : Work} (number : ℕ) (s : Subscriber) → Own May b s

@@ -3,7 +3,7 @@ use Rattle.std.proofs.Common.{◌≡◌, refl, sym, ap, subst, ◌∙◌, ℕ, B
 use Rattle.std.specs.Str.{bytes_eq}
 use Rattle.nas_base.specs.Branches.{per}
 use Rattle.nas_timers.specs.declared.timer_id.TimerId.{TimerId}
-use Rattle.nas_timers.specs.declared.timer_id.TimerId.TheVariants.{T3510, T3516, T3517, T3521, T3522, T3550, T3560, T3580, T3581, T3582, T3591, T3592}
+use Rattle.nas_timers.specs.declared.timer_id.TimerId.TheVariants.{T3510, T3516, T3517, T3521, T3522, T3550, T3555, T3560, T3580, T3581, T3582, T3591, T3592}
 use Rattle.milenage.specs.Home.{HomeRecord}
 use Rattle.amf_core.specs.Changes.{BeforeState}
 use Rattle.amf_core.specs.Commands.{authenticate, authenticated, deregister, left}
@@ -60,6 +60,7 @@ none_stays T3517 = refl
 none_stays T3521 = refl
 none_stays T3522 = refl
 none_stays T3550 = refl
+none_stays T3555 = refl
 none_stays T3560 = refl
 none_stays (T3580 psi) = refl
 none_stays (T3581 psi) = refl

@@ -3,12 +3,12 @@ use Rattle.std.proofs.Common.{◌≡◌, ◌≤◌, refl, sym, ap, subst, ◌∙
 use Rattle.std.proofs.lemmas.Bool.Decides.{nat_tests}
 use Rattle.nas_base.specs.Branches.{per}
 use Rattle.milenage.specs.Home.{HomeRecord}
-use Rattle.nas_elements.specs.declared.identity.Identity.{Identity}
 use Rattle.nas_security.specs.Contexts.{SecurityContext}
 use Rattle.mm_messages.specs.Messages.{mm_in, spelling}
 use Rattle.mm_messages.specs.Service.{service_reject}
 use Rattle.mm_messages.specs.declared.message.Mm.{Mm}
-use Rattle.mm_messages.specs.declared.message.Mm.TheVariants.{ServiceReject, ServiceRequest}
+use Rattle.mm_messages.specs.declared.message.Mm.TheVariants as mm
+use Rattle.mm_messages.specs.declared.service.ServiceRequest.{ServiceRequest}
 use Rattle.amf_core.specs.Checks.{Opened, Passage, checked_in_use, checked_pending, opened}
 use Rattle.amf_core.specs.Delivery.{check_of, ciphered, failed, failed_request, freshened, header_of, integrity_protected, is_mm, message_of, plain, plain_read, received, sender, taken_plain, under_new_context}
 use Rattle.amf_core.specs.Framing.{framed, framed_all, is_too_long}
@@ -34,7 +34,7 @@ use Rattle.amf_laws.proofs.DeliveryRows.{sender_is_current}
 use Rattle.amf_laws.proofs.MarkLaws.{fresh_unset}
 use Rattle.amf_laws.proofs.PassedLaws.{IsAtStart, freshened_at_start, kept_at_start, something_passes}
 use Rattle.amf_laws.proofs.Records.{unchanged_stay}
-use Rattle.amf_laws.specs.Passing.{AreRead, FailedRequestsRejected, IsAmong, IsRejected, NothingPasses, PassNoCheck, UncheckedDoNothing}
+use Rattle.amf_laws.specs.Passing.{AreRead, FailedRequestsRejected, IsAmong, IsRejected, NothingPasses, PassNoCheck, UncheckedDoNothing, service_rejected}
 
 -- what passes nothing isn't opened
 none_opened : (context : SecurityContext) (octets : List ℕ) → get_or octets 6 0 < 256 → NothingPasses context octets → opened context octets ≡ None
@@ -156,24 +156,24 @@ unchecked_do_nothing a home now rand number octets small secure no_check =
 
 -- a SERVICE REQUEST on a link that isn't secure
 abbrev rejecting : ℕ → Work → Work
-rejecting number w = answer number (ServiceReject 9 None) w
+rejecting number w = answer number service_rejected w
 
-plain_refused : (number ksi service_type : ℕ) (identity : Identity) (sessions : Option (List Bool)) (octets : List ℕ) (w : Work)
-    → (link_of number w).secure ≡ false → mm_in octets ≡ Ok (ServiceRequest ksi service_type identity sessions)
+plain_refused : (m : ServiceRequest) (number : ℕ) (octets : List ℕ) (w : Work)
+    → (link_of number w).secure ≡ false → mm_in octets ≡ Ok (mm.ServiceRequest m)
     → plain number octets w ≡ rejecting number w
 unfolding plain taken_plain service_refused
-plain_refused number ksi service_type identity sessions octets w unsecured is =
+plain_refused m number octets w unsecured is =
     when_false (link_of number w).secure w _ unsecured
     ∙ ap (λ (x : Result Mm _). plain_read x number octets w) is
     ∙ when_true true _ w refl
 
-failed_refused : (number ksi service_type : ℕ) (identity : Identity) (sessions : Option (List Bool)) (octets : List ℕ) (w : Work)
-    → (link_of number w).secure ≡ false → mm_in octets ≡ Ok (ServiceRequest ksi service_type identity sessions)
+failed_refused : (m : ServiceRequest) (number : ℕ) (octets : List ℕ) (w : Work)
+    → (link_of number w).secure ≡ false → mm_in octets ≡ Ok (mm.ServiceRequest m)
     → failed number (message_of (mm_in octets)) w ≡ rejecting number w
 unfolding service_refused per
-failed_refused number ksi service_type identity sessions octets w unsecured is =
+failed_refused m number octets w unsecured is =
     when_false (link_of number w).secure w _ unsecured
-    ∙ ap (λ (x : Result Mm _). per (message_of x) w (λ (m : Mm). failed_request number m w)) is
+    ∙ ap (λ (x : Result Mm _). per (message_of x) w (λ (y : Mm). failed_request number y w)) is
 
 fits : (octets : List ℕ) → is_mm octets ≡ true → length octets ≤ 4096 → (not (is_mm octets) || nat_lt 4096 (length octets)) ≡ false
 fits octets protocol size = by_protocol (is_mm octets) protocol
@@ -188,20 +188,20 @@ header_is n m e = grind (arith, nat_tests)
 header_above : (n m k : ℕ) → n ≡ m → k < m → (n == k) ≡ false
 header_above n m k e more = grind (arith, nat_tests)
 
-refused : {a : AmfState} {number : ℕ} {octets : List ℕ} {w : Work} (ksi service_type : ℕ) (identity : Identity) (sessions : Option (List Bool))
+refused : {a : AmfState} {number : ℕ} {octets : List ℕ} {w : Work} (m : ServiceRequest)
     → IsUnchecked a number octets w → (link_of number w).secure ≡ false → is_mm octets ≡ true → length octets ≤ 4096
-    → AreRead octets (ServiceRequest ksi service_type identity sessions) → received number octets w ≡ rejecting number w
+    → AreRead octets (mm.ServiceRequest m) → received number octets w ≡ rejecting number w
 unfolding received
-refused {a} {number} {octets} {w} ksi service_type identity sessions h unsecured protocol size (inl read) =
+refused {a} {number} {octets} {w} m h unsecured protocol size (inl read) =
     when_false (not (is_mm octets) || nat_lt 4096 (length octets)) w _ (fits octets protocol size)
     ∙ when_true (header_of octets == 0) _ _ (header_is (header_of octets) 0 read.0)
-    ∙ plain_refused number ksi service_type identity sessions octets w unsecured read.1
-refused {a} {number} {octets} {w} ksi service_type identity sessions h unsecured protocol size (inr read) =
+    ∙ plain_refused m number octets w unsecured read.1
+refused {a} {number} {octets} {w} m h unsecured protocol size (inr read) =
     when_false (not (is_mm octets) || nat_lt 4096 (length octets)) w _ (fits octets protocol size)
     ∙ when_false (header_of octets == 0) _ _ (header_above (header_of octets) 1 0 read.0 (omega arith))
     ∙ when_true (header_of octets == 1) _ _ (header_is (header_of octets) 1 read.0)
     ∙ integrity_fails h
-    ∙ failed_refused number ksi service_type identity sessions (drop 7 octets) w unsecured read.1
+    ∙ failed_refused m number (drop 7 octets) w unsecured read.1
 
 -- what goes out of it
 unsecured_is_plain : (l : Link) → l.secure ≡ false → own_protection l ≡ Plain
@@ -222,21 +222,21 @@ freshened_of a home now rand fresh number =
     (λ _. record { at_start = record { acts = refl; changes = refl; before = refl }; tmsi = refl; home_stays = refl })
 
 -- the one message that goes out
-one_sent : (number : ℕ) (f : Framed) → f.outs ≡ [] → framed (Say number Plain (ServiceReject 9 None)) f
-    ≡ record f { outs = Send (record { link = number; fresh = false; octets = spelling (ServiceReject 9 None); pass = None }) ∷ [] }
+one_sent : (number : ℕ) (f : Framed) → f.outs ≡ [] → framed (Say number Plain service_rejected) f
+    ≡ record f { outs = Send (record { link = number; fresh = false; octets = spelling service_rejected; pass = None }) ∷ [] }
 unfolding framed service_reject
-one_sent number f e = when_false (is_too_long (spelling (ServiceReject 9 None))) f _ refl ∙ rw e refl
+one_sent number f e = when_false (is_too_long (spelling service_rejected)) f _ refl ∙ rw e refl
 
 rejecting_ends : (a : AmfState) (home : List HomeRecord) (number : ℕ) (w : Work) → IsAtStartOf a home w → (link_of number w).secure ≡ false
     → IsRejected a home number (ended a home (rejecting number w))
 unfolding ended
 rejecting_ends a home number w h unsecured =
     let f : Framed = record { amf = w.amf; outs = [] } in
-    let said : (rejecting number w).acts ≡ Say number Plain (ServiceReject 9 None) ∷ [] =
-    ap (λ (x : List Act). x ++ Say number (own_protection (link_of number w)) (ServiceReject 9 None) ∷ []) h.at_start.acts
-    ∙ ap (λ (x : Protection). Say number x (ServiceReject 9 None) ∷ []) (unsecured_is_plain (link_of number w) unsecured) in
+    let said : (rejecting number w).acts ≡ Say number Plain service_rejected ∷ [] =
+    ap (λ (x : List Act). x ++ Say number (own_protection (link_of number w)) service_rejected ∷ []) h.at_start.acts
+    ∙ ap (λ (x : Protection). Say number x service_rejected ∷ []) (unsecured_is_plain (link_of number w) unsecured) in
     let out : framed_of (rejecting number w)
-    ≡ record f { outs = Send (record { link = number; fresh = false; octets = spelling (ServiceReject 9 None); pass = None }) ∷ [] } =
+    ≡ record f { outs = Send (record { link = number; fresh = false; octets = spelling service_rejected; pass = None }) ∷ [] } =
     ap (λ (x : List Act). framed_all x f) said ∙ one_sent number f refl in
     record {
       answer = ap (λ (x : Framed). x.outs) out;
@@ -270,5 +270,5 @@ failed_requests_rejected a home now rand number fresh octets small h =
     let is : IsUnchecked a number octets begin =
     record { small = small; no_check = h.unchecked; at_start = freshened_at_start a home now rand fresh number } in
     subst (λ (w : Work). IsRejected a home number (ended a home w))
-    (sym (refused h.read.0 h.read.1 h.read.2 h.read.3 is unsecured h.protocol h.size h.read.4))
+    (sym (refused h.read.0 is unsecured h.protocol h.size h.read.1))
     (rejecting_ends a home number begin (freshened_of a home now rand fresh number) unsecured)

@@ -5,7 +5,7 @@ use Rattle.nas_elements.specs.declared.identity.Identity.TheVariants as identiti
 use Rattle.nas_security.specs.Contexts.{SecurityContext}
 use Rattle.mm_messages.specs.Messages.{mm_in}
 use Rattle.mm_messages.specs.declared.message.Mm.{Mm}
-use Rattle.mm_messages.specs.declared.message.Mm.TheVariants.{RegistrationRequest, DeregistrationRequestUeOriginating, ServiceRequest, IdentityResponse}
+use Rattle.mm_messages.specs.declared.message.Mm.TheVariants as mm
 use Rattle.amf_core.specs.Checks.{opened}
 use Rattle.amf_core.specs.Naming.{keeps_guti, keeps_stmsi, suci_digits}
 use Rattle.amf_core.specs.State.{AmfState, link_in, subscriber_in}
@@ -32,10 +32,10 @@ Names a (identities.Other octets) supi = ⊥
 
 -- the identity that a message tells
 abbrev pub identity_in : Mm → Option Identity
-identity_in (RegistrationRequest registration ksi identity capability told) = Some identity
-identity_in (ServiceRequest ksi service_type identity told) = Some identity
-identity_in (DeregistrationRequestUeOriginating switch_off ksi identity) = Some identity
-identity_in (IdentityResponse identity) = Some identity
+identity_in (mm.RegistrationRequest m) = Some m.identity
+identity_in (mm.ServiceRequest m) = Some m.identity
+identity_in (mm.DeregistrationRequestUeOriginating m) = Some m.identity
+identity_in (mm.IdentityResponse m) = Some m.identity
 identity_in message = None
 
 -- octets open to a message under a context of a subscriber that is kept

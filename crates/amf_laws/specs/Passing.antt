@@ -1,14 +1,15 @@
 -- What an AMF takes as passed, and what octets do that pass no check (TS 24.501 clause 4.4.4.3).
-use Rattle.std.specs.Prelude.{◌≡◌, ◌≤◌, ◌⊎◌, ℕ, Bool, true, false, List, [], ◌∷◌, drop, length, Option, Some, None, Result, Ok, Err}
+use Rattle.std.specs.Prelude.{◌≡◌, ◌≤◌, ◌⊎◌, ℕ, Bool, true, false, List, [], ◌∷◌, drop, length, Some, None, Result, Ok, Err}
 use Rattle.nas_base.specs.declared.count.Dir.TheVariants.{Up}
+use Rattle.nas_base.specs.declared.mm_cause.TheConstants as cause
 use Rattle.milenage.specs.Home.{HomeRecord}
-use Rattle.nas_elements.specs.declared.identity.Identity.{Identity}
 use Rattle.nas_security.specs.Contexts.{SecurityContext}
 use Rattle.nas_security.specs.Passing.{Passes}
 use Rattle.nas_security.specs.declared.sends.Pass.{Pass}
 use Rattle.mm_messages.specs.Messages.{mm_in, spelling}
 use Rattle.mm_messages.specs.declared.message.Mm.{Mm}
-use Rattle.mm_messages.specs.declared.message.Mm.TheVariants.{ServiceReject, ServiceRequest}
+use Rattle.mm_messages.specs.declared.message.Mm.TheVariants as mm
+use Rattle.mm_messages.specs.declared.service.ServiceRequest.{ServiceRequest}
 use Rattle.amf_core.specs.Delivery.{header_of, is_mm}
 use Rattle.amf_core.specs.SecurityMode.{commanding_on}
 use Rattle.amf_core.specs.State.{AmfState, link_in}
@@ -99,14 +100,16 @@ pub record IsFailedRequest (a : AmfState) (number : ℕ) (fresh : Bool) (octets 
   pub protocol : is_mm octets ≡ true
   pub size : length octets ≤ 4096
   pub unsecured : (fresh ≡ true) ⊎ ((link_in number a.links).secure ≡ false)
-  pub read :
-      (ksi service_type : ℕ) × (identity : Identity) × (sessions : Option (List Bool)) × AreRead octets (ServiceRequest ksi service_type identity sessions)
+  pub read : (m : ServiceRequest) × AreRead octets (mm.ServiceRequest m)
   pub unchecked : PassNoCheck a number octets
 
--- It is answered by SERVICE REJECT 9, and nothing is sent beside it. No record of a subscriber changes, so no context, no kept 5G-GUTI and
+-- It is answered by SERVICE REJECT, since the UE identity can't be derived, and nothing is sent beside it. No record of a subscriber changes, so no context, no kept 5G-GUTI and
 -- no session, and neither do the numbers of the home network.
+abbrev pub service_rejected : Mm
+service_rejected = mm.ServiceReject (record { cause = cause.UE_IDENTITY_CANNOT_BE_DERIVED_BY_THE_NETWORK; status = None })
+
 pub record IsRejected (a : AmfState) (home : List HomeRecord) (number : ℕ) (new : Stepped) : Type 0 where
-  pub answer : new.outs ≡ Send (record { link = number; fresh = false; octets = spelling (ServiceReject 9 None); pass = None }) ∷ []
+  pub answer : new.outs ≡ Send (record { link = number; fresh = false; octets = spelling service_rejected; pass = None }) ∷ []
   pub subscribers : new.amf.subscribers ≡ a.subscribers
   pub numbers : (new.amf.tmsi ≡ a.tmsi) × (new.home ≡ home)
 

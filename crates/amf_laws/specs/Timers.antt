@@ -2,7 +2,7 @@
 use Rattle.std.specs.Prelude.{◌≡◌, ℕ, Bool, true, false, List, [], ◌∷◌, Option, Some, None, Result, Ok, Err, if◌then◌else◌}
 use Rattle.std.specs.Str.{bytes_eq}
 use Rattle.nas_timers.specs.declared.timer_id.TimerId.{TimerId}
-use Rattle.nas_timers.specs.declared.timer_id.TimerId.TheVariants.{T3510, T3516, T3517, T3521, T3522, T3550, T3560, T3580, T3581, T3582, T3591, T3592}
+use Rattle.nas_timers.specs.declared.timer_id.TimerId.TheVariants.{T3510, T3516, T3517, T3521, T3522, T3550, T3555, T3560, T3580, T3581, T3582, T3591, T3592}
 use Rattle.amf_core.specs.State.{AmfState, subscriber_in}
 use Rattle.amf_core.specs.Step.{Stepped}
 use Rattle.amf_core.specs.declared.inputs.AmfInput.{AmfInput}
@@ -31,6 +31,7 @@ with_timer T3510 runs r = r
 with_timer T3516 runs r = r
 with_timer T3517 runs r = r
 with_timer T3521 runs r = r
+with_timer T3555 runs r = r
 with_timer (T3580 psi) runs r = r
 with_timer (T3581 psi) runs r = r
 with_timer (T3582 psi) runs r = r

@@ -7,10 +7,9 @@
 mod hmac;
 mod kdf;
 mod keys;
+pub mod laws;
 mod nas;
 mod serving_network;
-#[cfg(test)]
-mod tests;
 
 pub use crate::hmac::hmac256;
 pub use crate::kdf::{kdf1, kdf2, kdf3};

@@ -6,3 +6,4 @@ pub mod HomeLists
 pub mod Laws
 pub mod Milenage
 pub mod Octets
+pub mod Published

@@ -1,7 +1,5 @@
 //! The functions of MILENAGE (TS 35.206 clause 4.1).
 ghost use Rattle.std.specs.Prelude.{◌≡◌, ◌≤◌};
-ghost use Rattle.aes_cmac.specs.Aes.{aes};
-ghost use Rattle.milenage.specs.Octets.{◌⊕◌};
 ghost use Rattle.milenage.specs.Milenage.{constant, f1, f1_star, f2345, f5_star, opc_of, out, out1, temp};
 
 use crate::F2345;

@@ -1,7 +1,14 @@
-//! What both ends know of each other, for all keys and challenges. These functions do nothing: their contracts are the laws.
+//! What both ends know of each other, for all keys and challenges, and what the definitions give for values from outside. These
+//! functions do nothing: their contracts are the laws.
 ghost use Rattle.std.specs.Prelude.{◌<◌, ◌^◌};
 ghost use Rattle.milenage.specs.HomeLaws.{AutsIsRight, CallsOnlyRaise, ChallengesRise};
 ghost use Rattle.milenage.specs.Laws.{AutsOpens, VectorIsTaken};
+ghost use Rattle.milenage.specs.Published.{PublishedVectors};
+
+/// The definitions give what TS 35.208 prints for its test set 1: OPc, MAC-A, MAC-S, RES, CK, IK, and AK of f5 and of f5*.
+pub fn published_vectors_hold()
+    ensures { PublishedVectors }
+{}
 
 /// A handset takes the vector of its own keys exactly where it is one for 5G and its sequence number is greater than the
 /// handset's, and then with the same RES, CK, IK and AK.

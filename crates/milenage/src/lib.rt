@@ -10,20 +10,15 @@ mod functions;
 mod home;
 #[cfg(test)]
 mod home_tests;
-mod laws;
+pub mod laws;
 mod octets;
 mod outputs;
 mod subscribers;
-#[cfg(test)]
-mod tests;
 mod vector;
 
 pub use crate::autn::{AutnAnswer, check_autn};
 pub use crate::functions::{f1, f1_star, f5_star, f2345, opc_of};
 pub use crate::home::{Home, HomeRefusal, ResyncRefusal};
-pub use crate::laws::{
-    auts_is_right, auts_opens, calls_only_raise, challenges_rise, vector_is_taken,
-};
 pub use crate::outputs::F2345;
 pub use crate::subscribers::{HomeEntry, HomeList, HomeListRefusal};
 pub use crate::vector::{Vector, make_vector};

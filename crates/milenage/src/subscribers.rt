@@ -90,10 +90,10 @@ impl HomeList {
     /// `Known` exactly where the list has its SUPI, else `Full` exactly where it has 64 subscribers, else `Memory` where there is
     /// none. The list is then as it was.
     #[tactic(auto, using(crate::proofs::HomeLemmas::home_pushed))]
-    pub fn push(&mut self, subscriber: HomeEntry) -> Result<(), HomeListRefusal>
+    pub fn push(&mut self, _alloc: Global, subscriber: HomeEntry) -> Result<(), HomeListRefusal>
         ensures { Pushes result subscriber self.old self.new }
     {
-        if self.contain(&subscriber.supi) {
+        if self.contains(&subscriber.supi) {
             return Err(HomeListRefusal::Known);
         }
         if self.items.len() >= 64 {
@@ -106,7 +106,7 @@ impl HomeList {
     }
 
     /// Whether one of them has this SUPI.
-    pub fn contain(&self, supi: &Supi) -> bool
+    pub fn contains(&self, supi: &Supi) -> bool
         ensures { result ≡ is_kept supi.now self.now }
     {
         for subscriber in &self.items {

@@ -1,25 +1,25 @@
--- Further elements of identifiers that stand there already change no message.
+-- Further elements of identifiers that stand there already, or that a message doesn't know, change no message.
 use Rattle.std.proofs.Common.{◌≡◌, ◌∙◌, ℕ, true, List, ◌++◌, refl, ap, sym}
 use Rattle.nas_base.specs.Walking.{RowParts, elements_in}
 use Rattle.nas_base.specs.declared.mm_kind.MmKind.{MmKind}
 use Rattle.nas_base.specs.declared.mm_kind.MmKind.TheVariants as kinds
-use Rattle.nas_layout.specs.FirstElements.{are_repeated, is_walked_whole}
+use Rattle.nas_layout.specs.FirstElements.{count_nothing, is_walked_whole}
 use Rattle.nas_layout.proofs.FirstElementsLaws.{HasRows, alike}
 use Rattle.mm_messages.proofs.SpelledLaws.{spelled_found}
-use Rattle.mm_messages.specs.Authentication.{authentication_failure_layout, authentication_request_layout, authentication_response_layout}
-use Rattle.mm_messages.specs.ConfigurationUpdate.{configuration_update_command_layout}
-use Rattle.mm_messages.specs.Deregistration.{deregistration_request_ue_originating_layout, deregistration_request_ue_terminated_layout}
+use Rattle.mm_messages.specs.Authentication.{authentication_failure, authentication_request, authentication_response}
+use Rattle.mm_messages.specs.ConfigurationUpdate.{configuration_update_command}
+use Rattle.mm_messages.specs.Deregistration.{deregistration_request_ue_originating, deregistration_request_ue_terminated}
 use Rattle.mm_messages.specs.FirstElements.{EndsInElements}
-use Rattle.mm_messages.specs.Identification.{identity_request_layout, identity_response_layout}
-use Rattle.mm_messages.specs.Messages.{SpellsMessage, layout_of, mm_in}
-use Rattle.mm_messages.specs.Registration.{registration_accept_layout, registration_reject_layout, registration_request_layout}
-use Rattle.mm_messages.specs.SecurityMode.{security_mode_command_layout, security_mode_complete_layout, security_mode_reject_layout}
-use Rattle.mm_messages.specs.Service.{service_accept_layout, service_reject_layout, service_request_layout}
-use Rattle.mm_messages.specs.StatusMessage.{five_gmm_status_layout}
-use Rattle.mm_messages.specs.Transport.{dl_nas_transport_layout, ul_nas_transport_layout}
+use Rattle.mm_messages.specs.Identification.{identity_request, identity_response}
+use Rattle.mm_messages.specs.Messages.{SpellsMessage, mm_in, tabled}
+use Rattle.mm_messages.specs.Registration.{registration_accept, registration_reject, registration_request}
+use Rattle.mm_messages.specs.SecurityMode.{security_mode_command, security_mode_complete, security_mode_reject}
+use Rattle.mm_messages.specs.Service.{service_accept, service_reject, service_request}
+use Rattle.mm_messages.specs.StatusMessage.{five_gmm_status}
+use Rattle.mm_messages.specs.Transport.{dl_nas_transport, ul_nas_transport}
 
-has_rows : (kind : MmKind) → HasRows (layout_of kind)
-unfolding authentication_failure_layout authentication_request_layout authentication_response_layout configuration_update_command_layout deregistration_request_ue_originating_layout deregistration_request_ue_terminated_layout identity_request_layout identity_response_layout registration_accept_layout registration_reject_layout registration_request_layout security_mode_command_layout security_mode_complete_layout security_mode_reject_layout service_accept_layout service_reject_layout service_request_layout five_gmm_status_layout dl_nas_transport_layout ul_nas_transport_layout
+has_rows : (kind : MmKind) → HasRows (tabled kind).table
+unfolding authentication_failure authentication_request authentication_response configuration_update_command deregistration_request_ue_originating deregistration_request_ue_terminated identity_request identity_response registration_accept registration_reject registration_request security_mode_command security_mode_complete security_mode_reject service_accept service_reject service_request five_gmm_status dl_nas_transport ul_nas_transport
 has_rows kinds.RegistrationRequest = λ first identity. refl
 has_rows kinds.RegistrationAccept = λ result. refl
 has_rows kinds.RegistrationComplete = refl
@@ -47,16 +47,28 @@ has_rows kinds.UlNasTransport = λ first container. refl
 has_rows kinds.DlNasTransport = λ first container. refl
 
 pub first_elements : (octets : List ℕ) (shape : List RowParts) (tail more : List ℕ) → EndsInElements octets shape tail → is_walked_whole shape tail ≡ true
-    → are_repeated (elements_in shape tail) (elements_in shape more) ≡ true → mm_in (octets ++ more) ≡ mm_in octets
-first_elements octets shape tail more e whole repeated =
-    let a = alike (layout_of e.kind) e.rest shape tail more (has_rows e.kind) e.parts whole repeated in
-    let before : SpellsMessage octets a.message = record { second = e.second; kind = e.kind; rest = e.rest; whole = e.whole; plain = e.plain; body = a.spelled } in
-    let after : SpellsMessage (octets ++ more) a.message = record {
+    → count_nothing shape (elements_in shape tail) (elements_in shape more) ≡ true → mm_in (octets ++ more) ≡ mm_in octets
+first_elements octets shape tail more e whole counted =
+    let a = alike (tabled e.kind).table e.rest shape tail more (has_rows e.kind) e.parts whole counted in
+    let made = (tabled e.kind).made a.made in
+    let before : SpellsMessage octets made = record {
+      second = e.second;
+      kind = e.kind;
+      rest = e.rest;
+      fields = a.made;
+      whole = e.whole;
+      plain = e.plain;
+      body = a.spelled;
+      made = refl;
+    } in
+    let after : SpellsMessage (octets ++ more) made = record {
       second = e.second;
       kind = e.kind;
       rest = e.rest ++ more;
+      fields = a.made;
       whole = ap (λ (os : List ℕ). os ++ more) e.whole;
       plain = e.plain;
       body = a.still;
+      made = refl;
     } in
-    spelled_found (octets ++ more) a.message after ∙ sym (spelled_found octets a.message before)
+    spelled_found (octets ++ more) made after ∙ sym (spelled_found octets made before)

@@ -1,14 +1,5 @@
-pub mod AuthenticationBack
 pub mod Back
-pub mod ConfigurationUpdateBack
-pub mod DeregistrationBack
+pub mod Bodies
 pub mod FirstElementsLaws
 pub mod HalvesBack
-pub mod IdentificationBack
-pub mod PlainBack
-pub mod RegistrationBack
-pub mod SecurityModeBack
-pub mod ServiceBack
 pub mod SpelledLaws
-pub mod SpellingLaws
-pub mod TransportBack

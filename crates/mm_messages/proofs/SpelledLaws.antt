@@ -1,5 +1,5 @@
 -- Octets spell a message exactly where they are read as it.
-use Rattle.std.proofs.Common.{◌≡◌, ℕ, ◌%◌, Bool, true, false, not, nat_lt, ◌==◌, ◌&&◌, List, [], ◌∷◌, length, slice_index, drop, Option, Some, None, Result, Ok, Err, if◌then◌else◌, arith, refl, ap, ◌∙◌}
+use Rattle.std.proofs.Common.{◌≡◌, ℕ, ◌%◌, Bool, true, false, not, nat_lt, ◌==◌, ◌&&◌, List, [], ◌∷◌, length, slice_index, drop, Option, Some, None, Result, Ok, Err, if◌then◌else◌, arith, refl, ap, sym, ◌∙◌}
 use Rattle.std.proofs.lemmas.Bool.Decides.{nat_tests}
 use Rattle.std.proofs.lemmas.List.Elements.{All-drop}
 use Rattle.std.specs.Prelude.{◌<◌, ◌≤◌}
@@ -8,11 +8,11 @@ use Rattle.nas_base.specs.Kinds.{mm_kind, mm_type}
 use Rattle.nas_base.specs.declared.mm_kind.MmKind.{MmKind}
 use Rattle.nas_layout.proofs.SpellsLaws.{laid_spelled, spelled_laid}
 use Rattle.nas_layout.specs.Laws.{AreOctets}
-use Rattle.nas_layout.specs.Layout.{laid}
+use Rattle.nas_layout.specs.Table.{laid}
 use Rattle.nas_layout.specs.declared.body.BodyRefusal.{BodyRefusal}
 use Rattle.nas_layout.specs.declared.body.BodyRefusal.TheVariants as body
 use Rattle.mm_messages.proofs.Back.{body_of}
-use Rattle.mm_messages.specs.Messages.{SpellsMessage, body_at, layout_of, mm_in, told}
+use Rattle.mm_messages.specs.Messages.{SpellsMessage, body_at, mm_in, tabled, told}
 use Rattle.mm_messages.specs.declared.message.Mm.{Mm}
 use Rattle.mm_messages.specs.declared.message.MmRefusal.{MmRefusal}
 use Rattle.mm_messages.specs.declared.message.MmRefusal.TheVariants.{Ignored}
@@ -20,7 +20,8 @@ use Rattle.mm_messages.specs.declared.message.MmRefusal.TheVariants.{Ignored}
 pub spelled_found : (octets : List ℕ) (message : Mm) → SpellsMessage octets message → mm_in octets ≡ Ok message
 spelled_found octets message s =
     ap mm_in s.whole ∙ body_of s.kind s.second s.rest s.plain
-    ∙ ap told (spelled_laid (layout_of s.kind) 1 (record { at = 3; left = s.rest }) message s.body)
+    ∙ ap (told (tabled s.kind).made) (spelled_laid (tabled s.kind).table 1 (record { at = 3; left = s.rest }) s.fields s.body)
+    ∙ ap (λ (m : Mm). Ok m) (sym s.made)
 
 -- no test refused the octets
 record Passed (a b c : Bool) (w : Result Mm MmRefusal) (message : Mm) : Type 0 where
@@ -36,24 +37,32 @@ passed false true c x y z w message h = cc
 passed false false true x y z w message h = cc
 passed false false false x y z w message h = record { first = refl; second = refl; third = refl; last = h }
 
-was_laid : (r : Result Mm BodyRefusal) (message : Mm) → told r ≡ Ok message → r ≡ Ok message
-was_laid (Ok m) message h = cc
-was_laid (Err (body.Mandatory n at)) message h = cc
-was_laid (Err body.Memory) message h = cc
+-- what a message was made of
+record MadeOf {A : Type 0} (made : A → Mm) (r : Result A BodyRefusal) (message : Mm) : Type 0 where
+  fields : A
+  is : r ≡ Ok fields
+  same : message ≡ made fields
+
+made_of : {A : Type 0} (made : A → Mm) (r : Result A BodyRefusal) (message : Mm) → told made r ≡ Ok message → MadeOf made r message
+made_of made (Ok x) message h = let same : made x ≡ message = cc in record { fields = x; is = refl; same = sym same }
+made_of made (Err (body.Mandatory n at)) message h = cc
+made_of made (Err body.Memory) message h = cc
 
 spelled_by : (a b c : ℕ) (rest : List ℕ) (message : Mm) (k : Option MmKind) → AreOctets rest → a ≡ 0x7e → b % 16 ≡ 0 → mm_kind c ≡ k
     → body_at k c (record { at = 3; left = rest }) ≡ Ok message → SpellsMessage (a ∷ b ∷ c ∷ rest) message
 spelled_by a b c rest message None octets is plain none h = cc
 spelled_by a b c rest message (Some kind) octets is plain some h =
     let typed : mm_type kind ≡ c = kinds_have_types.0.only c kind some in
+    let of = made_of (tabled kind).made (laid (tabled kind).table 1 (record { at = 3; left = rest })) message h in
     record {
       second = b;
       kind = kind;
       rest = rest;
+      fields = of.fields;
       whole = cc;
       plain = plain;
-      body = laid_spelled (layout_of kind) 1 (record { at = 3; left = rest }) message octets
-          (was_laid (laid (layout_of kind) 1 (record { at = 3; left = rest })) message h);
+      body = laid_spelled (tabled kind).table 1 (record { at = 3; left = rest }) of.fields octets of.is;
+      made = of.same;
     }
 
 first_is : (a n : ℕ) → 3 ≤ n → (nat_lt 0 n && not (a == 0x7e)) ≡ false → a ≡ 0x7e

@@ -2,31 +2,31 @@
 use Rattle.nas_base.specs.declared.mm_kind.MmKind.{MmKind}
 use Rattle.nas_base.specs.declared.mm_kind.MmKind.TheVariants as kinds
 use Rattle.mm_messages.specs.declared.message.Mm.{Mm}
-use Rattle.mm_messages.specs.declared.message.Mm.TheVariants.{RegistrationRequest, RegistrationAccept, RegistrationComplete, RegistrationReject, DeregistrationRequestUeOriginating, DeregistrationAcceptUeOriginating, DeregistrationRequestUeTerminated, DeregistrationAcceptUeTerminated, ServiceRequest, ServiceReject, ServiceAccept, ConfigurationUpdateCommand, ConfigurationUpdateComplete, AuthenticationRequest, AuthenticationResponse, AuthenticationReject, AuthenticationFailure, IdentityRequest, IdentityResponse, SecurityModeCommand, SecurityModeComplete, SecurityModeReject, FiveGmmStatus, UlNasTransport, DlNasTransport}
+use Rattle.mm_messages.specs.declared.message.Mm.TheVariants as mm
 
 abbrev pub kind_of : Mm → MmKind
-kind_of (RegistrationRequest registration ksi identity capability status) = kinds.RegistrationRequest
-kind_of (RegistrationAccept result guti tai_list nssai status t3512) = kinds.RegistrationAccept
-kind_of RegistrationComplete = kinds.RegistrationComplete
-kind_of (RegistrationReject cause) = kinds.RegistrationReject
-kind_of (DeregistrationRequestUeOriginating switch_off ksi identity) = kinds.DeregistrationRequestUeOriginating
-kind_of DeregistrationAcceptUeOriginating = kinds.DeregistrationAcceptUeOriginating
-kind_of (DeregistrationRequestUeTerminated switch_off cause) = kinds.DeregistrationRequestUeTerminated
-kind_of DeregistrationAcceptUeTerminated = kinds.DeregistrationAcceptUeTerminated
-kind_of (ServiceRequest ksi service_type identity status) = kinds.ServiceRequest
-kind_of (ServiceReject cause status) = kinds.ServiceReject
-kind_of (ServiceAccept status) = kinds.ServiceAccept
-kind_of (ConfigurationUpdateCommand indication guti) = kinds.ConfigurationUpdateCommand
-kind_of ConfigurationUpdateComplete = kinds.ConfigurationUpdateComplete
-kind_of (AuthenticationRequest ksi abba rand autn) = kinds.AuthenticationRequest
-kind_of (AuthenticationResponse res_star) = kinds.AuthenticationResponse
-kind_of AuthenticationReject = kinds.AuthenticationReject
-kind_of (AuthenticationFailure cause auts) = kinds.AuthenticationFailure
-kind_of (IdentityRequest identity_type) = kinds.IdentityRequest
-kind_of (IdentityResponse identity) = kinds.IdentityResponse
-kind_of (SecurityModeCommand algs ksi capability asi) = kinds.SecurityModeCommand
-kind_of (SecurityModeComplete message) = kinds.SecurityModeComplete
-kind_of (SecurityModeReject cause) = kinds.SecurityModeReject
-kind_of (FiveGmmStatus cause) = kinds.FiveGmmStatus
-kind_of (UlNasTransport container_type container psi request_type slice dnn) = kinds.UlNasTransport
-kind_of (DlNasTransport container_type container psi cause) = kinds.DlNasTransport
+kind_of (mm.RegistrationRequest m) = kinds.RegistrationRequest
+kind_of (mm.RegistrationAccept m) = kinds.RegistrationAccept
+kind_of mm.RegistrationComplete = kinds.RegistrationComplete
+kind_of (mm.RegistrationReject m) = kinds.RegistrationReject
+kind_of (mm.DeregistrationRequestUeOriginating m) = kinds.DeregistrationRequestUeOriginating
+kind_of mm.DeregistrationAcceptUeOriginating = kinds.DeregistrationAcceptUeOriginating
+kind_of (mm.DeregistrationRequestUeTerminated m) = kinds.DeregistrationRequestUeTerminated
+kind_of mm.DeregistrationAcceptUeTerminated = kinds.DeregistrationAcceptUeTerminated
+kind_of (mm.ServiceRequest m) = kinds.ServiceRequest
+kind_of (mm.ServiceReject m) = kinds.ServiceReject
+kind_of (mm.ServiceAccept m) = kinds.ServiceAccept
+kind_of (mm.ConfigurationUpdateCommand m) = kinds.ConfigurationUpdateCommand
+kind_of mm.ConfigurationUpdateComplete = kinds.ConfigurationUpdateComplete
+kind_of (mm.AuthenticationRequest m) = kinds.AuthenticationRequest
+kind_of (mm.AuthenticationResponse m) = kinds.AuthenticationResponse
+kind_of mm.AuthenticationReject = kinds.AuthenticationReject
+kind_of (mm.AuthenticationFailure m) = kinds.AuthenticationFailure
+kind_of (mm.IdentityRequest m) = kinds.IdentityRequest
+kind_of (mm.IdentityResponse m) = kinds.IdentityResponse
+kind_of (mm.SecurityModeCommand m) = kinds.SecurityModeCommand
+kind_of (mm.SecurityModeComplete m) = kinds.SecurityModeComplete
+kind_of (mm.SecurityModeReject m) = kinds.SecurityModeReject
+kind_of (mm.FiveGmmStatus m) = kinds.FiveGmmStatus
+kind_of (mm.UlNasTransport m) = kinds.UlNasTransport
+kind_of (mm.DlNasTransport m) = kinds.DlNasTransport

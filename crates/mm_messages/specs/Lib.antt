@@ -1,4 +1,5 @@
 pub mod Authentication
+pub mod Bodies
 pub mod ConfigurationUpdate
 pub mod Deregistration
 pub mod FirstElements

@@ -1,5 +1,7 @@
 -- What the parts and elements of 5GMM messages read as, where that is no element of its own (TS 24.501 clause 9.11.3).
 use Rattle.std.specs.Prelude.{ℕ, ◌%◌, Bool, List, [], ◌∷◌, nat_le, ◌==◌, Option, Some, None, if◌then◌else◌}
+use Rattle.nas_layout.specs.Coding.{Coding, value}
+use Rattle.nas_layout.specs.Parts.{one_octet}
 use Rattle.mm_messages.specs.declared.registration.RegistrationType.{RegistrationType}
 use Rattle.mm_messages.specs.declared.registration.RegistrationType.TheVariants.{Initial, Mobility, Periodic, Emergency}
 
@@ -34,7 +36,10 @@ is_switch_off half = nat_le 8 (half % 16)
 abbrev pub deregistration_code : Bool → ℕ
 deregistration_code switch_off = if switch_off then 9 else 1
 
--- a result of exactly one octet (clause 9.11.3.6)
+-- 5GS registration result: exactly one octet (clause 9.11.3.6)
 abbrev pub result_in : List ℕ → Option ℕ
 result_in (octet ∷ []) = Some octet
 result_in octets = None
+
+abbrev pub registration_result : Coding ℕ
+registration_result = value result_in one_octet

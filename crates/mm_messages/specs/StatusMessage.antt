@@ -1,15 +1,9 @@
 -- 5GMM STATUS (TS 24.501 clause 8.2.29).
-use Rattle.std.specs.Prelude.{ℕ, List, [], ◌∷◌, ◌++◌}
-use Rattle.nas_layout.specs.Layout.{Layout, nothing_more, part}
+use Rattle.mm_messages.specs.declared.status_message.FiveGmmStatus.{FiveGmmStatus}
+use Rattle.nas_layout.specs.Codings.{octet}
+use Rattle.nas_layout.specs.Table.{Table, elements, message, part}
 use Rattle.nas_layout.specs.declared.frame.Frame.TheVariants.{V}
-use Rattle.nas_layout.specs.Parts.{octet_in}
-use Rattle.mm_messages.specs.Parts.{head}
-use Rattle.mm_messages.specs.declared.message.Mm.{Mm}
-use Rattle.mm_messages.specs.declared.message.Mm.TheVariants.{FiveGmmStatus}
 
 -- 5GMM cause
-unfoldable pub five_gmm_status_layout : Layout Mm
-five_gmm_status_layout = part (V 1) octet_in (λ cause. nothing_more (FiveGmmStatus cause))
-
-unfoldable pub five_gmm_status : ℕ → List ℕ
-five_gmm_status cause = head 0x64 ++ cause ∷ []
+unfoldable pub five_gmm_status : Table FiveGmmStatus
+five_gmm_status = part (V 1) octet (λ m. m.cause) (λ cause. elements (message (record { cause = cause })))

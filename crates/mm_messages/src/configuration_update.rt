@@ -1,50 +1,66 @@
 //! The messages of a configuration update.
-ghost use Rattle.std.specs.Prelude.{◌≡◌};
-ghost use Rattle.nas_base.specs.Writing.{Writes};
-ghost use Rattle.nas_layout.specs.Layout.{Lays, laid};
-ghost use Rattle.mm_messages.specs.ConfigurationUpdate.{configuration_update_command, configuration_update_command_layout};
+ghost use Rattle.nas_layout.specs.Answers.{Lays};
+ghost use Rattle.nas_layout.specs.ReadBack.{TableBack};
+ghost use Rattle.nas_layout.specs.Table.{pieces};
+ghost use Rattle.nas_layout.specs.Telling.{HearsAll};
+ghost use Rattle.mm_messages.specs.ConfigurationUpdate.{configuration_update_command};
 
-use crate::elements;
-use crate::message::{Mm, write_head};
-use nas_base::{Form, Full, MmKind, Reader, Row, Shape, Writer, walk};
+use nas_base::{Form, Reader, Row, Shape, walk};
 use nas_elements::Guti;
-use nas_layout::{BodyRefusal, Half, fixed_row, half_tv, half_tv_size, tlve, tlve_row, tlve_size};
+use nas_layout::{BodyRefusal, Half, Pieces, element, fixed_row, iei, known, laws, tlve_row};
 
-/// Reads what stands behind the head of a CONFIGURATION UPDATE COMMAND.
-#[tactic(auto, unfolding(crate::specs::ConfigurationUpdate::configuration_update_command_layout))]
-pub fn read_command(reader: &mut Reader) -> Result<Mm, BodyRefusal>
-    ensures { Lays result (laid configuration_update_command_layout 1 reader.old) }
-{
-    let found = walk(
-        reader.left(),
-        &Shape::from_slice(&[
-            Row {
-                iei: 0xd0,
-                form: Form::Half,
-            },
-            tlve_row(0x77),
-            fixed_row(0x46, 1),
-            fixed_row(0x47, 7),
-        ])
-        .unwrap(),
-    );
-    Ok(Mm::ConfigurationUpdateCommand {
-        indication: elements::indication(&found),
-        guti: elements::guti(&found),
-    })
+/// CONFIGURATION UPDATE COMMAND (TS 24.501 clause 8.2.19).
+#[derive(Drop)]
+pub struct ConfigurationUpdateCommand {
+    pub indication: Option<Half>,
+    pub guti: Option<Guti>,
 }
 
-/// Writes a CONFIGURATION UPDATE COMMAND.
-#[tactic(auto, unfolding(crate::specs::ConfigurationUpdate::configuration_update_command))]
-pub fn write_command(
-    indication: &Option<Half>,
-    guti: &Option<Guti>,
-    out: &mut Writer,
-) -> Result<(), Full>
-    ensures { Writes (configuration_update_command indication.now guti.now) out.old out.new result }
-{
-    out.fits(3 + half_tv_size(indication) + tlve_size(guti))?;
-    write_head(MmKind::ConfigurationUpdateCommand, out)?;
-    half_tv(Half(0xd), indication, out)?;
-    tlve(0x77, guti, out)
+impl ConfigurationUpdateCommand {
+    // Reads what stands behind the head.
+    #[tactic(auto, unfolding(crate::specs::ConfigurationUpdate::configuration_update_command))]
+    pub(crate) fn read(reader: &mut Reader) -> Result<ConfigurationUpdateCommand, BodyRefusal>
+        ensures { Lays result configuration_update_command 1 reader.old }
+    {
+        let found = walk(
+            reader.left(),
+            &Shape::from_slice(&[
+                Row {
+                    iei: iei::CONFIGURATION_UPDATE_INDICATION,
+                    form: Form::Half,
+                },
+                tlve_row(iei::GUTI_5G),
+                fixed_row(iei::LOCAL_TIME_ZONE, 2),
+                fixed_row(iei::UNIVERSAL_TIME_AND_LOCAL_TIME_ZONE, 8),
+            ])
+            .unwrap(),
+        );
+        Ok(ConfigurationUpdateCommand {
+            indication: known(iei::CONFIGURATION_UPDATE_INDICATION, &found),
+            guti: known(iei::GUTI_5G, &found),
+        })
+    }
+
+    // Tells what stands behind the head, piece by piece.
+    #[tactic(auto, unfolding(crate::specs::ConfigurationUpdate::configuration_update_command))]
+    pub(crate) fn tell<P: Pieces>(&self, to: &mut P) -> Result<(), P::Refusal>
+        ensures { HearsAll P.with_piece P.refuses to.old to.new (pieces configuration_update_command self.now) result }
+    {
+        element(
+            to,
+            iei::CONFIGURATION_UPDATE_INDICATION,
+            Form::Half,
+            &self.indication,
+        )?;
+        element(to, iei::GUTI_5G, Form::Tlve, &self.guti)
+    }
+
+    // What is told is read back: this does nothing.
+    #[tactic(auto, unfolding(crate::specs::ConfigurationUpdate::configuration_update_command))]
+    pub(crate) fn is_read_back(&self)
+        ensures { TableBack configuration_update_command self.now }
+    {
+        laws::half_element_is_read_back(iei::CONFIGURATION_UPDATE_INDICATION, &self.indication);
+        laws::tlve_is_read_back(iei::GUTI_5G, &self.guti);
+    }
 }

@@ -1,52 +1,77 @@
 //! The messages of identification.
-ghost use Rattle.std.specs.Prelude.{◌≡◌};
-ghost use Rattle.nas_base.specs.Writing.{Writes};
-ghost use Rattle.nas_layout.specs.Layout.{Lays, laid};
-ghost use Rattle.mm_messages.specs.Identification.{identity_request, identity_request_layout, identity_response, identity_response_layout};
+ghost use Rattle.nas_layout.specs.Answers.{Lays};
+ghost use Rattle.nas_layout.specs.ReadBack.{TableBack};
+ghost use Rattle.nas_layout.specs.Table.{pieces};
+ghost use Rattle.nas_layout.specs.Telling.{HearsAll};
+ghost use Rattle.mm_messages.specs.Identification.{identity_request, identity_response};
 
-use crate::message::{Mm, write_head};
-use crate::parts;
-use nas_base::{Full, MmKind, Reader, Writer};
+use nas_base::Reader;
 use nas_elements::Identity;
-use nas_layout::{BodyRefusal, Half, lve, lve_size, octet_part};
+use nas_layout::{BodyRefusal, Frame, Half, Pieces, identity_part, laws, part, read_part};
 use std::alloc::Global;
 
-/// Reads what stands behind the head of an IDENTITY REQUEST.
-#[tactic(auto, unfolding(crate::specs::Identification::identity_request_layout))]
-pub fn read_request(reader: &mut Reader) -> Result<Mm, BodyRefusal>
-    ensures { Lays result (laid identity_request_layout 1 reader.old) }
-{
-    let first = octet_part(1, reader)?;
-    Ok(Mm::IdentityRequest {
-        identity_type: Half(first % 16),
-    })
+/// IDENTITY REQUEST (TS 24.501 clause 8.2.21).
+#[derive(Drop)]
+pub struct IdentityRequest {
+    pub identity_type: Half,
 }
 
-/// Writes an IDENTITY REQUEST.
-#[tactic(auto, unfolding(crate::specs::Identification::identity_request))]
-pub fn write_request(identity_type: Half, out: &mut Writer) -> Result<(), Full>
-    ensures { Writes (identity_request identity_type) out.old out.new result }
-{
-    out.fits(4)?;
-    write_head(MmKind::IdentityRequest, out)?;
-    out.put(&[identity_type.0])
+impl IdentityRequest {
+    // Reads what stands behind the head.
+    #[tactic(auto, unfolding(crate::specs::Identification::identity_request))]
+    pub(crate) fn read(reader: &mut Reader) -> Result<IdentityRequest, BodyRefusal>
+        ensures { Lays result identity_request 1 reader.old }
+    {
+        let identity_type = read_part(1, Frame::V(1), reader)?;
+        Ok(IdentityRequest { identity_type })
+    }
+
+    // Tells what stands behind the head, piece by piece.
+    #[tactic(auto, unfolding(crate::specs::Identification::identity_request))]
+    pub(crate) fn tell<P: Pieces>(&self, to: &mut P) -> Result<(), P::Refusal>
+        ensures { HearsAll P.with_piece P.refuses to.old to.new (pieces identity_request self.now) result }
+    {
+        part(to, Frame::V(1), &self.identity_type)
+    }
+
+    // What is told is read back: this does nothing.
+    #[tactic(auto, unfolding(crate::specs::Identification::identity_request))]
+    pub(crate) fn is_read_back(&self)
+        ensures { TableBack identity_request self.now }
+    {
+        let _identity_type = self.identity_type.0;
+    }
 }
 
-/// Reads what stands behind the head of an IDENTITY RESPONSE.
-#[tactic(auto, unfolding(crate::specs::Identification::identity_response_layout))]
-pub fn read_response(alloc: Global, reader: &mut Reader) -> Result<Mm, BodyRefusal>
-    ensures { Lays result (laid identity_response_layout 1 reader.old) }
-{
-    let identity = parts::identity(alloc, 1, reader)?;
-    Ok(Mm::IdentityResponse { identity })
+/// IDENTITY RESPONSE (TS 24.501 clause 8.2.22).
+#[derive(Drop)]
+pub struct IdentityResponse {
+    pub identity: Identity,
 }
 
-/// Writes an IDENTITY RESPONSE.
-#[tactic(auto, unfolding(crate::specs::Identification::identity_response))]
-pub fn write_response(identity: &Identity, out: &mut Writer) -> Result<(), Full>
-    ensures { Writes (identity_response identity.now) out.old out.new result }
-{
-    out.fits(3 + lve_size(identity))?;
-    write_head(MmKind::IdentityResponse, out)?;
-    lve(identity, out)
+impl IdentityResponse {
+    // Reads what stands behind the head.
+    #[tactic(auto, unfolding(crate::specs::Identification::identity_response))]
+    pub(crate) fn read(alloc: Global, reader: &mut Reader) -> Result<IdentityResponse, BodyRefusal>
+        ensures { Lays result identity_response 1 reader.old }
+    {
+        let identity = identity_part(alloc, 1, reader)?;
+        Ok(IdentityResponse { identity })
+    }
+
+    // Tells what stands behind the head, piece by piece.
+    #[tactic(auto, unfolding(crate::specs::Identification::identity_response))]
+    pub(crate) fn tell<P: Pieces>(&self, to: &mut P) -> Result<(), P::Refusal>
+        ensures { HearsAll P.with_piece P.refuses to.old to.new (pieces identity_response self.now) result }
+    {
+        part(to, Frame::Lve, &self.identity)
+    }
+
+    // What is told is read back: this does nothing.
+    #[tactic(auto, unfolding(crate::specs::Identification::identity_response))]
+    pub(crate) fn is_read_back(&self)
+        ensures { TableBack identity_response self.now }
+    {
+        laws::identity_is_read_back(&self.identity);
+    }
 }

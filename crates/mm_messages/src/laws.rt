@@ -1,89 +1,55 @@
 //! What holds of every message. These functions do nothing: their contracts are the laws.
-ghost use Rattle.std.specs.Prelude.{◌≡◌, Ok};
-ghost use Rattle.mm_messages.specs.Messages.{mm_in, spelling};
+ghost use Rattle.std.specs.Prelude.{◌≡◌, ℕ, true, List, ◌++◌, Ok};
+ghost use Rattle.nas_base.specs.Walking.{RowParts, elements_in};
+ghost use Rattle.nas_layout.specs.FirstElements.{count_nothing, is_walked_whole};
+ghost use Rattle.mm_messages.specs.FirstElements.{EndsInElements};
+ghost use Rattle.mm_messages.specs.Messages.{SpellsMessage, mm_in, spelling};
+ghost use Rattle.mm_messages.specs.declared.message.Mm.{Mm as AMessage};
 
-use crate::{
-    Mm, authentication_laws, configuration_update_laws, deregistration_laws, identification_laws,
-    registration_laws, security_mode_laws, service_laws, status_message_laws, transport_laws,
-};
+use crate::Mm;
 
 /// A message that is written is read back.
+#[tactic(auto, using(crate::proofs::Back::back))]
 pub fn message_is_read_back(message: &Mm)
     ensures { mm_in (spelling message.now) ≡ Ok message.now }
 {
     match message {
-        Mm::RegistrationRequest {
-            registration,
-            ksi,
-            identity,
-            capability,
-            status,
-        } => registration_laws::request(*registration, *ksi, identity, capability, status),
-        Mm::RegistrationAccept {
-            result,
-            guti,
-            tai_list,
-            nssai,
-            status,
-            t3512,
-        } => registration_laws::accept(*result, guti, tai_list, nssai, status, t3512),
-        Mm::RegistrationComplete => registration_laws::complete(),
-        Mm::RegistrationReject { cause } => registration_laws::reject(*cause),
-        Mm::DeregistrationRequestUeOriginating {
-            switch_off,
-            ksi,
-            identity,
-        } => deregistration_laws::request_of_handset(*switch_off, *ksi, identity),
-        Mm::DeregistrationAcceptUeOriginating => deregistration_laws::accept_to_handset(),
-        Mm::DeregistrationRequestUeTerminated { switch_off, cause } => {
-            deregistration_laws::request_of_network(*switch_off, cause)
-        }
-        Mm::DeregistrationAcceptUeTerminated => deregistration_laws::accept_to_network(),
-        Mm::ServiceRequest {
-            ksi,
-            service_type,
-            identity,
-            status,
-        } => service_laws::request(*ksi, *service_type, identity, status),
-        Mm::ServiceReject { cause, status } => service_laws::reject(*cause, status),
-        Mm::ServiceAccept { status } => service_laws::accept(status),
-        Mm::ConfigurationUpdateCommand { indication, guti } => {
-            configuration_update_laws::command(indication, guti)
-        }
-        Mm::ConfigurationUpdateComplete => configuration_update_laws::complete(),
-        Mm::AuthenticationRequest {
-            ksi,
-            abba,
-            rand,
-            autn,
-        } => authentication_laws::request(*ksi, abba, rand, autn),
-        Mm::AuthenticationResponse { res_star } => authentication_laws::response(res_star),
-        Mm::AuthenticationReject => authentication_laws::reject(),
-        Mm::AuthenticationFailure { cause, auts } => authentication_laws::failure(*cause, auts),
-        Mm::IdentityRequest { identity_type } => identification_laws::request(*identity_type),
-        Mm::IdentityResponse { identity } => identification_laws::response(identity),
-        Mm::SecurityModeCommand {
-            algs,
-            ksi,
-            capability,
-            asi,
-        } => security_mode_laws::command(*algs, *ksi, capability, asi),
-        Mm::SecurityModeComplete { message } => security_mode_laws::complete(message),
-        Mm::SecurityModeReject { cause } => security_mode_laws::reject(*cause),
-        Mm::FiveGmmStatus { cause } => status_message_laws::status(*cause),
-        Mm::UlNasTransport {
-            container_type,
-            container,
-            psi,
-            request_type,
-            slice,
-            dnn,
-        } => transport_laws::ul(*container_type, container, psi, request_type, slice, dnn),
-        Mm::DlNasTransport {
-            container_type,
-            container,
-            psi,
-            cause,
-        } => transport_laws::dl(*container_type, container, psi, cause),
+        Mm::RegistrationRequest(message) => message.is_read_back(),
+        Mm::RegistrationAccept(message) => message.is_read_back(),
+        Mm::RegistrationReject(message) => message.is_read_back(),
+        Mm::DeregistrationRequestUeOriginating(message) => message.is_read_back(),
+        Mm::DeregistrationRequestUeTerminated(message) => message.is_read_back(),
+        Mm::ServiceRequest(message) => message.is_read_back(),
+        Mm::ServiceReject(message) => message.is_read_back(),
+        Mm::ServiceAccept(message) => message.is_read_back(),
+        Mm::ConfigurationUpdateCommand(message) => message.is_read_back(),
+        Mm::AuthenticationRequest(message) => message.is_read_back(),
+        Mm::AuthenticationResponse(message) => message.is_read_back(),
+        Mm::AuthenticationFailure(message) => message.is_read_back(),
+        Mm::IdentityRequest(message) => message.is_read_back(),
+        Mm::IdentityResponse(message) => message.is_read_back(),
+        Mm::SecurityModeCommand(message) => message.is_read_back(),
+        Mm::SecurityModeComplete(message) => message.is_read_back(),
+        Mm::SecurityModeReject(message) => message.is_read_back(),
+        Mm::FiveGmmStatus(message) => message.is_read_back(),
+        Mm::UlNasTransport(message) => message.is_read_back(),
+        Mm::DlNasTransport(message) => message.is_read_back(),
+        Mm::RegistrationComplete => {}
+        Mm::DeregistrationAcceptUeOriginating => {}
+        Mm::DeregistrationAcceptUeTerminated => {}
+        Mm::ConfigurationUpdateComplete => {}
+        Mm::AuthenticationReject => {}
     }
 }
+
+/// Octets spell a message exactly where it is what is read in them; so they spell at most one.
+pub fn messages_are_spelled(octets: &[u8])
+    ensures found { (message : AMessage) → SpellsMessage octets.now message → mm_in octets.now ≡ Ok message }
+    ensures only { (message : AMessage) → mm_in octets.now ≡ Ok message → SpellsMessage octets.now message }
+{}
+
+/// Of elements with the same identifier the first counts: behind a message none of whose elements is cut, further octets change
+/// nothing where each element in them has an identifier that stood before, or one that the message's table doesn't know.
+pub fn first_elements_count(octets: &[u8])
+    ensures { (shape : List RowParts) (tail more : List ℕ) → EndsInElements octets.now shape tail → is_walked_whole shape tail ≡ true → count_nothing shape (elements_in shape tail) (elements_in shape more) ≡ true → mm_in (octets.now ++ more) ≡ mm_in octets.now }
+{}

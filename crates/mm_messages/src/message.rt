@@ -1,20 +1,23 @@
 //! The messages, and their way to octets and back.
-ghost use Rattle.std.specs.Prelude.{◌≡◌};
+ghost use Rattle.std.specs.Prelude.{◌≡◌, ◌≤◌, length};
 ghost use Rattle.nas_base.specs.Kinds.{mm_type};
 ghost use Rattle.nas_base.specs.Writing.{Writes};
-ghost use Rattle.nas_layout.specs.Layout.{Lays, laid};
-ghost use Rattle.mm_messages.specs.Messages.{Decodes, layout_of, mm_in, spelling};
+ghost use Rattle.nas_layout.specs.Pieces.{pieces_octets};
+ghost use Rattle.nas_layout.specs.Telling.{HearsAll};
+ghost use Rattle.mm_messages.specs.Bodies.{LaysBody};
+ghost use Rattle.mm_messages.specs.Messages.{Decodes, pieces_of, spelling};
 ghost use Rattle.mm_messages.specs.Parts.{head};
 
 use crate::{
-    RegistrationType, authentication, configuration_update, deregistration, identification,
-    registration, security_mode, service, status_message, transport,
+    AuthenticationFailure, AuthenticationRequest, AuthenticationResponse,
+    ConfigurationUpdateCommand, DeregistrationRequestUeOriginating,
+    DeregistrationRequestUeTerminated, DlNasTransport, FiveGmmStatus, IdentityRequest,
+    IdentityResponse, RegistrationAccept, RegistrationReject, RegistrationRequest,
+    SecurityModeCommand, SecurityModeComplete, SecurityModeReject, ServiceAccept, ServiceReject,
+    ServiceRequest, UlNasTransport, kind_of,
 };
-use nas_base::{Full, Ksi, MmKind, Octets, Reader, Writer};
-use nas_elements::{
-    Algs, Asi, Capability, Dnn, Guti, Identity, Nssai, Slice, Status, TaiList, Timer3,
-};
-use nas_layout::{Abba, BodyRefusal, Half};
+use nas_base::{Full, MmKind, Reader, Writer};
+use nas_layout::{BodyRefusal, Pieces, Size};
 use std::alloc::Global;
 
 /// 5GMM's extended protocol discriminator (TS 24.501 clause 9.2).
@@ -29,127 +32,55 @@ pub const PLAIN: u8 = 0x00;
 #[derive(Drop)]
 pub enum Mm {
     /// REGISTRATION REQUEST (clause 8.2.6).
-    RegistrationRequest {
-        registration: RegistrationType,
-        ksi: Ksi,
-        identity: Identity,
-        capability: Option<Capability>,
-        status: Option<Status>,
-    },
+    RegistrationRequest(RegistrationRequest),
     /// REGISTRATION ACCEPT (clause 8.2.7).
-    RegistrationAccept {
-        result: u8,
-        guti: Option<Guti>,
-        tai_list: Option<TaiList>,
-        nssai: Option<Nssai>,
-        status: Option<Status>,
-        t3512: Option<Timer3>,
-    },
+    RegistrationAccept(RegistrationAccept),
     /// REGISTRATION COMPLETE (clause 8.2.8).
     RegistrationComplete,
     /// REGISTRATION REJECT (clause 8.2.9).
-    RegistrationReject {
-        cause: u8,
-    },
+    RegistrationReject(RegistrationReject),
     /// DEREGISTRATION REQUEST of the handset (clause 8.2.12).
-    DeregistrationRequestUeOriginating {
-        switch_off: bool,
-        ksi: Ksi,
-        identity: Identity,
-    },
+    DeregistrationRequestUeOriginating(DeregistrationRequestUeOriginating),
     /// DEREGISTRATION ACCEPT to the handset (clause 8.2.13).
     DeregistrationAcceptUeOriginating,
     /// DEREGISTRATION REQUEST of the network (clause 8.2.14).
-    DeregistrationRequestUeTerminated {
-        switch_off: bool,
-        cause: Option<u8>,
-    },
+    DeregistrationRequestUeTerminated(DeregistrationRequestUeTerminated),
     /// DEREGISTRATION ACCEPT to the network (clause 8.2.15).
     DeregistrationAcceptUeTerminated,
     /// SERVICE REQUEST (clause 8.2.16).
-    ServiceRequest {
-        ksi: Ksi,
-        service_type: Half,
-        identity: Identity,
-        status: Option<Status>,
-    },
+    ServiceRequest(ServiceRequest),
     /// SERVICE REJECT (clause 8.2.18).
-    ServiceReject {
-        cause: u8,
-        status: Option<Status>,
-    },
+    ServiceReject(ServiceReject),
     /// SERVICE ACCEPT (clause 8.2.17).
-    ServiceAccept {
-        status: Option<Status>,
-    },
+    ServiceAccept(ServiceAccept),
     /// CONFIGURATION UPDATE COMMAND (clause 8.2.19).
-    ConfigurationUpdateCommand {
-        indication: Option<Half>,
-        guti: Option<Guti>,
-    },
+    ConfigurationUpdateCommand(ConfigurationUpdateCommand),
     /// CONFIGURATION UPDATE COMPLETE (clause 8.2.20).
     ConfigurationUpdateComplete,
     /// AUTHENTICATION REQUEST (clause 8.2.1).
-    AuthenticationRequest {
-        ksi: Ksi,
-        abba: Abba,
-        rand: Option<[u8; 16]>,
-        autn: Option<[u8; 16]>,
-    },
-    /// AUTHENTICATION RESPONSE, with RES* (clause 8.2.2).
-    AuthenticationResponse {
-        res_star: Option<[u8; 16]>,
-    },
+    AuthenticationRequest(AuthenticationRequest),
+    /// AUTHENTICATION RESPONSE (clause 8.2.2).
+    AuthenticationResponse(AuthenticationResponse),
     /// AUTHENTICATION REJECT (clause 8.2.5).
     AuthenticationReject,
     /// AUTHENTICATION FAILURE (clause 8.2.4).
-    AuthenticationFailure {
-        cause: u8,
-        auts: Option<[u8; 14]>,
-    },
+    AuthenticationFailure(AuthenticationFailure),
     /// IDENTITY REQUEST (clause 8.2.21).
-    IdentityRequest {
-        identity_type: Half,
-    },
+    IdentityRequest(IdentityRequest),
     /// IDENTITY RESPONSE (clause 8.2.22).
-    IdentityResponse {
-        identity: Identity,
-    },
+    IdentityResponse(IdentityResponse),
     /// SECURITY MODE COMMAND (clause 8.2.25).
-    SecurityModeCommand {
-        algs: Algs,
-        ksi: Ksi,
-        capability: Capability,
-        asi: Option<Asi>,
-    },
-    /// SECURITY MODE COMPLETE, with the whole request (clause 8.2.26).
-    SecurityModeComplete {
-        message: Option<Octets>,
-    },
+    SecurityModeCommand(SecurityModeCommand),
+    /// SECURITY MODE COMPLETE (clause 8.2.26).
+    SecurityModeComplete(SecurityModeComplete),
     /// SECURITY MODE REJECT (clause 8.2.27).
-    SecurityModeReject {
-        cause: u8,
-    },
+    SecurityModeReject(SecurityModeReject),
     /// 5GMM STATUS (clause 8.2.29).
-    FiveGmmStatus {
-        cause: u8,
-    },
+    FiveGmmStatus(FiveGmmStatus),
     /// UL NAS TRANSPORT (clause 8.2.10).
-    UlNasTransport {
-        container_type: Half,
-        container: Octets,
-        psi: Option<u8>,
-        request_type: Option<Half>,
-        slice: Option<Slice>,
-        dnn: Option<Dnn>,
-    },
+    UlNasTransport(UlNasTransport),
     /// DL NAS TRANSPORT (clause 8.2.11).
-    DlNasTransport {
-        container_type: Half,
-        container: Octets,
-        psi: Option<u8>,
-        cause: Option<u8>,
-    },
+    DlNasTransport(DlNasTransport),
 }
 
 /// Why octets are no message (TS 24.501 clauses 7.2, 7.4 and 7.5).
@@ -171,10 +102,11 @@ pub enum MmRefusal {
 ///
 /// # Errors
 ///
-/// `Ignored`, `UnknownType` and `Mandatory` exactly where there is none, in this order; or `Memory`.
+/// `Ignored`, `UnknownType` and `Mandatory` exactly where there is none, in this order; or `Memory`, where a part or an element is
+/// kept as its octets.
 #[tactic(auto, unfolding(crate::specs::Messages::mm_in))]
 pub fn decode_mm(alloc: Global, octets: &[u8]) -> Result<Mm, MmRefusal>
-    ensures { Decodes result (mm_in octets.now) }
+    ensures { Decodes result octets.now }
 {
     if !octets.is_empty() && octets[0] != EPD_5GMM {
         return Err(MmRefusal::Ignored { at: 0 });
@@ -198,39 +130,56 @@ pub fn decode_mm(alloc: Global, octets: &[u8]) -> Result<Mm, MmRefusal>
 }
 
 // Reads what stands behind the head of a message of this kind.
+#[tactic(auto, using(crate::proofs::Bodies::refused))]
 fn read_body(alloc: Global, kind: MmKind, reader: &mut Reader) -> Result<Mm, BodyRefusal>
-    ensures { Lays result (laid (layout_of kind) 1 reader.old) }
+    ensures { LaysBody result kind reader.old }
 {
     match kind {
-        MmKind::RegistrationRequest => registration::read_request(alloc, reader),
-        MmKind::RegistrationAccept => registration::read_accept(reader),
+        MmKind::RegistrationRequest => Ok(Mm::RegistrationRequest(RegistrationRequest::read(
+            alloc, reader,
+        )?)),
+        MmKind::RegistrationAccept => Ok(Mm::RegistrationAccept(RegistrationAccept::read(reader)?)),
         MmKind::RegistrationComplete => Ok(Mm::RegistrationComplete),
-        MmKind::RegistrationReject => registration::read_reject(reader),
-        MmKind::DeregistrationRequestUeOriginating => {
-            deregistration::read_request_of_handset(alloc, reader)
-        }
+        MmKind::RegistrationReject => Ok(Mm::RegistrationReject(RegistrationReject::read(reader)?)),
+        MmKind::DeregistrationRequestUeOriginating => Ok(Mm::DeregistrationRequestUeOriginating(
+            DeregistrationRequestUeOriginating::read(alloc, reader)?,
+        )),
         MmKind::DeregistrationAcceptUeOriginating => Ok(Mm::DeregistrationAcceptUeOriginating),
-        MmKind::DeregistrationRequestUeTerminated => {
-            deregistration::read_request_of_network(reader)
-        }
+        MmKind::DeregistrationRequestUeTerminated => Ok(Mm::DeregistrationRequestUeTerminated(
+            DeregistrationRequestUeTerminated::read(reader)?,
+        )),
         MmKind::DeregistrationAcceptUeTerminated => Ok(Mm::DeregistrationAcceptUeTerminated),
-        MmKind::ServiceRequest => service::read_request(alloc, reader),
-        MmKind::ServiceReject => service::read_reject(reader),
-        MmKind::ServiceAccept => service::read_accept(reader),
-        MmKind::ConfigurationUpdateCommand => configuration_update::read_command(reader),
+        MmKind::ServiceRequest => Ok(Mm::ServiceRequest(ServiceRequest::read(alloc, reader)?)),
+        MmKind::ServiceReject => Ok(Mm::ServiceReject(ServiceReject::read(reader)?)),
+        MmKind::ServiceAccept => Ok(Mm::ServiceAccept(ServiceAccept::read(reader)?)),
+        MmKind::ConfigurationUpdateCommand => Ok(Mm::ConfigurationUpdateCommand(
+            ConfigurationUpdateCommand::read(reader)?,
+        )),
         MmKind::ConfigurationUpdateComplete => Ok(Mm::ConfigurationUpdateComplete),
-        MmKind::AuthenticationRequest => authentication::read_request(reader),
-        MmKind::AuthenticationResponse => authentication::read_response(reader),
+        MmKind::AuthenticationRequest => Ok(Mm::AuthenticationRequest(AuthenticationRequest::read(
+            reader,
+        )?)),
+        MmKind::AuthenticationResponse => Ok(Mm::AuthenticationResponse(
+            AuthenticationResponse::read(reader)?,
+        )),
         MmKind::AuthenticationReject => Ok(Mm::AuthenticationReject),
-        MmKind::AuthenticationFailure => authentication::read_failure(reader),
-        MmKind::IdentityRequest => identification::read_request(reader),
-        MmKind::IdentityResponse => identification::read_response(alloc, reader),
-        MmKind::SecurityModeCommand => security_mode::read_command(reader),
-        MmKind::SecurityModeComplete => security_mode::read_complete(alloc, reader),
-        MmKind::SecurityModeReject => security_mode::read_reject(reader),
-        MmKind::FiveGmmStatus => status_message::read(reader),
-        MmKind::UlNasTransport => transport::read_ul(alloc, reader),
-        MmKind::DlNasTransport => transport::read_dl(alloc, reader),
+        MmKind::AuthenticationFailure => Ok(Mm::AuthenticationFailure(AuthenticationFailure::read(
+            reader,
+        )?)),
+        MmKind::IdentityRequest => Ok(Mm::IdentityRequest(IdentityRequest::read(reader)?)),
+        MmKind::IdentityResponse => Ok(Mm::IdentityResponse(IdentityResponse::read(
+            alloc, reader,
+        )?)),
+        MmKind::SecurityModeCommand => Ok(Mm::SecurityModeCommand(SecurityModeCommand::read(
+            reader,
+        )?)),
+        MmKind::SecurityModeComplete => Ok(Mm::SecurityModeComplete(SecurityModeComplete::read(
+            alloc, reader,
+        )?)),
+        MmKind::SecurityModeReject => Ok(Mm::SecurityModeReject(SecurityModeReject::read(reader)?)),
+        MmKind::FiveGmmStatus => Ok(Mm::FiveGmmStatus(FiveGmmStatus::read(reader)?)),
+        MmKind::UlNasTransport => Ok(Mm::UlNasTransport(UlNasTransport::read(alloc, reader)?)),
+        MmKind::DlNasTransport => Ok(Mm::DlNasTransport(DlNasTransport::read(alloc, reader)?)),
     }
 }
 
@@ -238,105 +187,66 @@ fn read_body(alloc: Global, kind: MmKind, reader: &mut Reader) -> Result<Mm, Bod
 ///
 /// # Errors
 ///
-/// `Full` exactly where the whole message doesn't fit; nothing is then written.
+/// `Full` exactly where it doesn't fit; nothing is then written.
 pub fn encode_mm(value: &Mm, out: &mut Writer) -> Result<(), Full>
     ensures { Writes (spelling value.now) out.old out.new result }
 {
-    match value {
-        Mm::RegistrationRequest {
-            registration,
-            ksi,
-            identity,
-            capability,
-            status,
-        } => registration::write_request(*registration, *ksi, identity, capability, status, out),
-        Mm::RegistrationAccept {
-            result,
-            guti,
-            tai_list,
-            nssai,
-            status,
-            t3512,
-        } => registration::write_accept(*result, guti, tai_list, nssai, status, t3512, out),
-        Mm::RegistrationComplete => write_head(MmKind::RegistrationComplete, out),
-        Mm::RegistrationReject { cause } => registration::write_reject(*cause, out),
-        Mm::DeregistrationRequestUeOriginating {
-            switch_off,
-            ksi,
-            identity,
-        } => deregistration::write_request_of_handset(*switch_off, *ksi, identity, out),
-        Mm::DeregistrationAcceptUeOriginating => {
-            write_head(MmKind::DeregistrationAcceptUeOriginating, out)
-        }
-        Mm::DeregistrationRequestUeTerminated { switch_off, cause } => {
-            deregistration::write_request_of_network(*switch_off, cause, out)
-        }
-        Mm::DeregistrationAcceptUeTerminated => {
-            write_head(MmKind::DeregistrationAcceptUeTerminated, out)
-        }
-        Mm::ServiceRequest {
-            ksi,
-            service_type,
-            identity,
-            status,
-        } => service::write_request(*ksi, *service_type, identity, status, out),
-        Mm::ServiceReject { cause, status } => service::write_reject(*cause, status, out),
-        Mm::ServiceAccept { status } => service::write_accept(status, out),
-        Mm::ConfigurationUpdateCommand { indication, guti } => {
-            configuration_update::write_command(indication, guti, out)
-        }
-        Mm::ConfigurationUpdateComplete => write_head(MmKind::ConfigurationUpdateComplete, out),
-        Mm::AuthenticationRequest {
-            ksi,
-            abba,
-            rand,
-            autn,
-        } => authentication::write_request(*ksi, abba, rand, autn, out),
-        Mm::AuthenticationResponse { res_star } => authentication::write_response(res_star, out),
-        Mm::AuthenticationReject => write_head(MmKind::AuthenticationReject, out),
-        Mm::AuthenticationFailure { cause, auts } => {
-            authentication::write_failure(*cause, auts, out)
-        }
-        Mm::IdentityRequest { identity_type } => {
-            identification::write_request(*identity_type, out)
-        }
-        Mm::IdentityResponse { identity } => identification::write_response(identity, out),
-        Mm::SecurityModeCommand {
-            algs,
-            ksi,
-            capability,
-            asi,
-        } => security_mode::write_command(*algs, *ksi, capability, asi, out),
-        Mm::SecurityModeComplete { message } => security_mode::write_complete(message, out),
-        Mm::SecurityModeReject { cause } => security_mode::write_reject(*cause, out),
-        Mm::FiveGmmStatus { cause } => status_message::write(*cause, out),
-        Mm::UlNasTransport {
-            container_type,
-            container,
-            psi,
-            request_type,
-            slice,
-            dnn,
-        } => transport::write_ul(
-            *container_type,
-            container,
-            psi,
-            request_type,
-            slice,
-            dnn,
-            out,
-        ),
-        Mm::DlNasTransport {
-            container_type,
-            container,
-            psi,
-            cause,
-        } => transport::write_dl(*container_type, container, psi, cause, out),
+    out.fits(3 + size_of(value))?;
+    write_head(kind_of(value), out)?;
+    tell(value, out)
+}
+
+// How many octets stand behind the head.
+fn size_of(value: &Mm) -> usize
+    ensures value { result ≡ length (pieces_octets (pieces_of value.now)) }
+    ensures limit { result ≤ 65648 }
+{
+    let mut size = Size::new();
+    match tell(value, &mut size) {
+        Ok(()) => size.octets(),
+        Err(_) => unreachable!(),
     }
 }
 
-/// The head of a plain message of this kind (TS 24.501 clauses 9.2, 9.3 and 9.7).
-pub(crate) fn write_head(kind: MmKind, out: &mut Writer) -> Result<(), Full>
+/// Tells what stands behind the message's head, piece by piece, in the order of the standard's tables.
+///
+/// # Errors
+///
+/// What the listener has.
+pub fn tell<P: Pieces>(message: &Mm, to: &mut P) -> Result<(), P::Refusal>
+    ensures { HearsAll P.with_piece P.refuses to.old to.new (pieces_of message.now) result }
+{
+    match message {
+        Mm::RegistrationRequest(message) => message.tell(to),
+        Mm::RegistrationAccept(message) => message.tell(to),
+        Mm::RegistrationReject(message) => message.tell(to),
+        Mm::DeregistrationRequestUeOriginating(message) => message.tell(to),
+        Mm::DeregistrationRequestUeTerminated(message) => message.tell(to),
+        Mm::ServiceRequest(message) => message.tell(to),
+        Mm::ServiceReject(message) => message.tell(to),
+        Mm::ServiceAccept(message) => message.tell(to),
+        Mm::ConfigurationUpdateCommand(message) => message.tell(to),
+        Mm::AuthenticationRequest(message) => message.tell(to),
+        Mm::AuthenticationResponse(message) => message.tell(to),
+        Mm::AuthenticationFailure(message) => message.tell(to),
+        Mm::IdentityRequest(message) => message.tell(to),
+        Mm::IdentityResponse(message) => message.tell(to),
+        Mm::SecurityModeCommand(message) => message.tell(to),
+        Mm::SecurityModeComplete(message) => message.tell(to),
+        Mm::SecurityModeReject(message) => message.tell(to),
+        Mm::FiveGmmStatus(message) => message.tell(to),
+        Mm::UlNasTransport(message) => message.tell(to),
+        Mm::DlNasTransport(message) => message.tell(to),
+        Mm::RegistrationComplete
+        | Mm::DeregistrationAcceptUeOriginating
+        | Mm::DeregistrationAcceptUeTerminated
+        | Mm::ConfigurationUpdateComplete
+        | Mm::AuthenticationReject => Ok(()),
+    }
+}
+
+// The head of a plain message of this kind (TS 24.501 clauses 9.2, 9.3 and 9.7).
+fn write_head(kind: MmKind, out: &mut Writer) -> Result<(), Full>
     ensures { Writes (head (mm_type kind)) out.old out.new result }
 {
     out.put(&[EPD_5GMM, PLAIN, kind.code()])

@@ -1,17 +1,20 @@
 //! The messages of registration.
-ghost use Rattle.std.specs.Prelude.{◌≡◌};
-ghost use Rattle.nas_base.specs.Writing.{Writes};
-ghost use Rattle.nas_layout.specs.Layout.{Lays, laid};
-ghost use Rattle.mm_messages.specs.Parts.{registration_type_code, registration_type_of};
-ghost use Rattle.mm_messages.specs.Registration.{registration_accept, registration_accept_layout, registration_reject, registration_reject_layout, registration_request, registration_request_layout};
+ghost use Rattle.nas_layout.specs.Answers.{Lays};
+ghost use Rattle.nas_layout.specs.ReadBack.{TableBack};
+ghost use Rattle.nas_layout.specs.Table.{pieces};
+ghost use Rattle.nas_layout.specs.Telling.{HearsAll};
+ghost use Rattle.std.specs.Prelude.{◌≡◌, false};
+ghost use Rattle.nas_layout.specs.Answers.{Takes};
+ghost use Rattle.nas_layout.specs.Table.{part_at};
+ghost use Rattle.nas_layout.specs.declared.frame.Frame.TheVariants.{Lv};
+ghost use Rattle.mm_messages.specs.Parts.{registration_type_code, registration_type_of, result_in};
+ghost use Rattle.mm_messages.specs.Registration.{registration_accept, registration_reject, registration_request};
 
-use crate::message::{Mm, write_head};
-use crate::{elements, parts};
-use nas_base::{Full, Ksi, MmKind, Reader, Shape, Writer, walk};
+use nas_base::{Form, Ksi, Reader, Shape, walk};
 use nas_elements::{Capability, Guti, Identity, Nssai, Status, TaiList, Timer3};
 use nas_layout::{
-    BodyRefusal, Half, fixed_row, lve, lve_size, octet_part, tlv, tlv_row, tlv_size, tlve,
-    tlve_row, tlve_size, two_halves,
+    BodyRefusal, Frame, Half, Pieces, Readable, cut, element, fixed_row, identity_part, iei, known,
+    laws, part, read_part, tlv_row, tlve_row, two_halves,
 };
 use std::alloc::Global;
 
@@ -32,8 +35,8 @@ pub enum RegistrationType {
 }
 
 impl RegistrationType {
-    /// Its three bits.
-    pub fn code(self) -> u8
+    // Its three bits.
+    fn code(self) -> u8
         ensures { result ≡ registration_type_code self }
     {
         match self {
@@ -45,7 +48,7 @@ impl RegistrationType {
     }
 
     // The type in a half. All other values than these are read as an initial registration.
-    fn of(half: u8) -> RegistrationType
+    fn from_half(half: u8) -> RegistrationType
         ensures { result ≡ registration_type_of half }
     {
         match half % 8 {
@@ -57,117 +60,174 @@ impl RegistrationType {
     }
 }
 
-/// Reads what stands behind the head of a REGISTRATION REQUEST.
-#[tactic(auto, unfolding(crate::specs::Registration::registration_request_layout))]
-pub fn read_request(alloc: Global, reader: &mut Reader) -> Result<Mm, BodyRefusal>
-    ensures { Lays result (laid registration_request_layout 1 reader.old) }
+// A 5GS registration result behind its length of one octet.
+fn read_result(part: u8, reader: &mut Reader) -> Result<u8, BodyRefusal>
+    ensures { Takes result reader.new (λ x. false) (part_at part Lv result_in reader.old) }
 {
-    let first = octet_part(1, reader)?;
-    let identity = parts::identity(alloc, 2, reader)?;
-    let found = walk(
-        reader.left(),
-        &Shape::from_slice(&[tlv_row(0x2e), tlv_row(0x50), fixed_row(0x52, 6)]).unwrap(),
-    );
-    Ok(Mm::RegistrationRequest {
-        registration: RegistrationType::of(first % 16),
-        ksi: Ksi(first / 16 % 8),
-        identity,
-        capability: elements::capability(&found),
-        status: elements::status(&found),
-    })
+    let at = reader.place();
+    match cut(part, Frame::Lv, reader)? {
+        [octet] => Ok(*octet),
+        _ => Err(BodyRefusal::Mandatory { part, at }),
+    }
 }
 
-/// Reads what stands behind the head of a REGISTRATION ACCEPT.
-#[tactic(auto, unfolding(crate::specs::Registration::registration_accept_layout))]
-pub fn read_accept(reader: &mut Reader) -> Result<Mm, BodyRefusal>
-    ensures { Lays result (laid registration_accept_layout 1 reader.old) }
-{
-    let result = parts::registration_result(1, reader)?;
-    let found = walk(
-        reader.left(),
-        &Shape::from_slice(&[
-            tlve_row(0x77),
-            tlv_row(0x54),
-            tlv_row(0x15),
-            tlv_row(0x50),
-            tlv_row(0x5e),
-        ])
-        .unwrap(),
-    );
-    Ok(Mm::RegistrationAccept {
-        result,
-        guti: elements::guti(&found),
-        tai_list: elements::tai_list(&found),
-        nssai: elements::allowed_nssai(&found),
-        status: elements::status(&found),
-        t3512: elements::t3512(&found),
-    })
+/// REGISTRATION REQUEST (TS 24.501 clause 8.2.6).
+#[derive(Drop)]
+pub struct RegistrationRequest {
+    pub registration: RegistrationType,
+    pub ksi: Ksi,
+    pub identity: Identity,
+    pub capability: Option<Capability>,
+    pub status: Option<Status>,
 }
 
-/// Reads what stands behind the head of a REGISTRATION REJECT.
-#[tactic(auto, unfolding(crate::specs::Registration::registration_reject_layout))]
-pub fn read_reject(reader: &mut Reader) -> Result<Mm, BodyRefusal>
-    ensures { Lays result (laid registration_reject_layout 1 reader.old) }
-{
-    let cause = octet_part(1, reader)?;
-    Ok(Mm::RegistrationReject { cause })
+impl RegistrationRequest {
+    // Reads what stands behind the head.
+    #[tactic(auto, unfolding(crate::specs::Registration::registration_request))]
+    pub(crate) fn read(
+        alloc: Global,
+        reader: &mut Reader,
+    ) -> Result<RegistrationRequest, BodyRefusal>
+        ensures { Lays result registration_request 1 reader.old }
+    {
+        let first: u8 = read_part(1, Frame::V(1), reader)?;
+        let identity = identity_part(alloc, 2, reader)?;
+        let found = walk(
+            reader.left(),
+            &Shape::from_slice(&[
+                tlv_row(iei::UE_SECURITY_CAPABILITY),
+                tlv_row(iei::PDU_SESSION_STATUS),
+                fixed_row(iei::LAST_VISITED_REGISTERED_TAI, 7),
+            ])
+            .unwrap(),
+        );
+        Ok(RegistrationRequest {
+            registration: RegistrationType::from_half(first % 16),
+            ksi: Ksi(first / 16 % 8),
+            identity,
+            capability: known(iei::UE_SECURITY_CAPABILITY, &found),
+            status: known(iei::PDU_SESSION_STATUS, &found),
+        })
+    }
+
+    // Tells what stands behind the head, piece by piece.
+    #[tactic(auto, unfolding(crate::specs::Registration::registration_request))]
+    pub(crate) fn tell<P: Pieces>(&self, to: &mut P) -> Result<(), P::Refusal>
+        ensures { HearsAll P.with_piece P.refuses to.old to.new (pieces registration_request self.now) result }
+    {
+        let registration = Half(self.registration.code() + FOLLOW_ON);
+        part(to, Frame::V(1), &two_halves(registration, Half(self.ksi.0)))?;
+        part(to, Frame::Lve, &self.identity)?;
+        element(to, iei::UE_SECURITY_CAPABILITY, Form::Tlv, &self.capability)?;
+        element(to, iei::PDU_SESSION_STATUS, Form::Tlv, &self.status)
+    }
+
+    // What is told is read back: this does nothing.
+    #[tactic(auto, unfolding(crate::specs::Registration::registration_request), using(crate::proofs::HalvesBack::registration_back))]
+    pub(crate) fn is_read_back(&self)
+        ensures { TableBack registration_request self.now }
+    {
+        let _ksi = self.ksi.0;
+        laws::identity_is_read_back(&self.identity);
+        laws::tlv_is_read_back(iei::UE_SECURITY_CAPABILITY, &self.capability);
+        laws::tlv_is_read_back(iei::PDU_SESSION_STATUS, &self.status);
+    }
 }
 
-/// Writes a REGISTRATION REQUEST.
-#[tactic(auto, unfolding(crate::specs::Registration::registration_request))]
-pub fn write_request(
-    registration: RegistrationType,
-    ksi: Ksi,
-    identity: &Identity,
-    capability: &Option<Capability>,
-    status: &Option<Status>,
-    out: &mut Writer,
-) -> Result<(), Full>
-    ensures { Writes (registration_request registration ksi identity.now capability.now status.now) out.old out.new result }
-{
-    out.fits(4 + lve_size(identity) + tlv_size(capability) + tlv_size(status))?;
-    write_head(MmKind::RegistrationRequest, out)?;
-    out.put(&[two_halves(Half(registration.code() + FOLLOW_ON), Half(ksi.0))])?;
-    lve(identity, out)?;
-    tlv(0x2e, capability, out)?;
-    tlv(0x50, status, out)
+/// REGISTRATION ACCEPT (TS 24.501 clause 8.2.7).
+#[derive(Drop)]
+pub struct RegistrationAccept {
+    pub result: u8,
+    pub guti: Option<Guti>,
+    pub tai_list: Option<TaiList>,
+    pub nssai: Option<Nssai>,
+    pub status: Option<Status>,
+    pub t3512: Option<Timer3>,
 }
 
-/// Writes a REGISTRATION ACCEPT.
-#[tactic(auto, unfolding(crate::specs::Registration::registration_accept))]
-pub fn write_accept(
-    outcome: u8,
-    guti: &Option<Guti>,
-    tai_list: &Option<TaiList>,
-    nssai: &Option<Nssai>,
-    status: &Option<Status>,
-    t3512: &Option<Timer3>,
-    out: &mut Writer,
-) -> Result<(), Full>
-    ensures { Writes (registration_accept outcome guti.now tai_list.now nssai.now status.now t3512.now) out.old out.new result }
-{
-    out.fits(
-        5 + tlve_size(guti)
-            + tlv_size(tai_list)
-            + tlv_size(nssai)
-            + tlv_size(status)
-            + tlv_size(t3512),
-    )?;
-    write_head(MmKind::RegistrationAccept, out)?;
-    out.put(&[1, outcome])?;
-    tlve(0x77, guti, out)?;
-    tlv(0x54, tai_list, out)?;
-    tlv(0x15, nssai, out)?;
-    tlv(0x50, status, out)?;
-    tlv(0x5e, t3512, out)
+impl RegistrationAccept {
+    // Reads what stands behind the head.
+    #[tactic(auto, unfolding(crate::specs::Registration::registration_accept))]
+    pub(crate) fn read(reader: &mut Reader) -> Result<RegistrationAccept, BodyRefusal>
+        ensures { Lays result registration_accept 1 reader.old }
+    {
+        let result = read_result(1, reader)?;
+        let found = walk(
+            reader.left(),
+            &Shape::from_slice(&[
+                tlve_row(iei::GUTI_5G),
+                tlv_row(iei::TAI_LIST),
+                tlv_row(iei::ALLOWED_NSSAI),
+                tlv_row(iei::PDU_SESSION_STATUS),
+                tlv_row(iei::T3512_VALUE),
+            ])
+            .unwrap(),
+        );
+        Ok(RegistrationAccept {
+            result,
+            guti: known(iei::GUTI_5G, &found),
+            tai_list: known(iei::TAI_LIST, &found),
+            nssai: known(iei::ALLOWED_NSSAI, &found),
+            status: known(iei::PDU_SESSION_STATUS, &found),
+            t3512: known(iei::T3512_VALUE, &found),
+        })
+    }
+
+    // Tells what stands behind the head, piece by piece.
+    #[tactic(auto, unfolding(crate::specs::Registration::registration_accept))]
+    pub(crate) fn tell<P: Pieces>(&self, to: &mut P) -> Result<(), P::Refusal>
+        ensures { HearsAll P.with_piece P.refuses to.old to.new (pieces registration_accept self.now) result }
+    {
+        part(to, Frame::Lv, &self.result)?;
+        element(to, iei::GUTI_5G, Form::Tlve, &self.guti)?;
+        element(to, iei::TAI_LIST, Form::Tlv, &self.tai_list)?;
+        element(to, iei::ALLOWED_NSSAI, Form::Tlv, &self.nssai)?;
+        element(to, iei::PDU_SESSION_STATUS, Form::Tlv, &self.status)?;
+        element(to, iei::T3512_VALUE, Form::Tlv, &self.t3512)
+    }
+
+    // What is told is read back: this does nothing.
+    #[tactic(auto, unfolding(crate::specs::Registration::registration_accept))]
+    pub(crate) fn is_read_back(&self)
+        ensures { TableBack registration_accept self.now }
+    {
+        laws::tlve_is_read_back(iei::GUTI_5G, &self.guti);
+        laws::tlv_is_read_back(iei::TAI_LIST, &self.tai_list);
+        laws::tlv_is_read_back(iei::ALLOWED_NSSAI, &self.nssai);
+        laws::tlv_is_read_back(iei::PDU_SESSION_STATUS, &self.status);
+        laws::tlv_is_read_back(iei::T3512_VALUE, &self.t3512);
+    }
 }
 
-/// Writes a REGISTRATION REJECT.
-#[tactic(auto, unfolding(crate::specs::Registration::registration_reject))]
-pub fn write_reject(cause: u8, out: &mut Writer) -> Result<(), Full>
-    ensures { Writes (registration_reject cause) out.old out.new result }
-{
-    out.fits(4)?;
-    write_head(MmKind::RegistrationReject, out)?;
-    out.put(&[cause])
+/// REGISTRATION REJECT (TS 24.501 clause 8.2.9).
+#[derive(Drop)]
+pub struct RegistrationReject {
+    pub cause: u8,
+}
+
+impl RegistrationReject {
+    // Reads what stands behind the head.
+    #[tactic(auto, unfolding(crate::specs::Registration::registration_reject))]
+    pub(crate) fn read(reader: &mut Reader) -> Result<RegistrationReject, BodyRefusal>
+        ensures { Lays result registration_reject 1 reader.old }
+    {
+        let cause = read_part(1, Frame::V(1), reader)?;
+        Ok(RegistrationReject { cause })
+    }
+
+    // Tells what stands behind the head, piece by piece.
+    #[tactic(auto, unfolding(crate::specs::Registration::registration_reject))]
+    pub(crate) fn tell<P: Pieces>(&self, to: &mut P) -> Result<(), P::Refusal>
+        ensures { HearsAll P.with_piece P.refuses to.old to.new (pieces registration_reject self.now) result }
+    {
+        part(to, Frame::V(1), &self.cause)
+    }
+
+    // What is told is read back: this does nothing.
+    #[tactic(auto, unfolding(crate::specs::Registration::registration_reject))]
+    pub(crate) fn is_read_back(&self)
+        ensures { TableBack registration_reject self.now }
+    {
+        self.cause.is_read_back();
+    }
 }

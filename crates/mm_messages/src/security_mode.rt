@@ -1,97 +1,150 @@
 //! The messages of security mode control.
-ghost use Rattle.std.specs.Prelude.{◌≡◌};
-ghost use Rattle.nas_base.specs.Writing.{Writes};
-ghost use Rattle.nas_layout.specs.Layout.{Lays, laid};
-ghost use Rattle.mm_messages.specs.SecurityMode.{security_mode_command, security_mode_command_layout, security_mode_complete, security_mode_complete_layout, security_mode_reject, security_mode_reject_layout};
+ghost use Rattle.nas_layout.specs.Answers.{Lays};
+ghost use Rattle.nas_layout.specs.ReadBack.{TableBack};
+ghost use Rattle.nas_layout.specs.Table.{pieces};
+ghost use Rattle.nas_layout.specs.Telling.{HearsAll};
+ghost use Rattle.mm_messages.specs.SecurityMode.{security_mode_command, security_mode_complete, security_mode_reject};
 
-use crate::message::{Mm, write_head};
-use crate::{elements, parts};
-use nas_base::{Full, Ksi, MmKind, Octets, Reader, Shape, Writer, walk};
+use nas_base::{Form, Ksi, Octets, Reader, Shape, walk};
 use nas_elements::{Algs, Asi, Capability};
 use nas_layout::{
-    BodyRefusal, fixed_row, lv, lv_size, octet_part, tlv, tlv_row, tlv_size, tlve, tlve_row,
-    tlve_size,
+    BodyRefusal, Frame, Pieces, Readable, element, fixed_row, iei, known, known_container, laws,
+    part, read_part, tlv_row, tlve_row,
 };
 use std::alloc::Global;
 
-/// Reads what stands behind the head of a SECURITY MODE COMMAND.
-#[tactic(auto, unfolding(crate::specs::SecurityMode::security_mode_command_layout))]
-pub fn read_command(reader: &mut Reader) -> Result<Mm, BodyRefusal>
-    ensures { Lays result (laid security_mode_command_layout 1 reader.old) }
-{
-    let algs = parts::algs(1, reader)?;
-    let second = octet_part(2, reader)?;
-    let capability = parts::capability(3, reader)?;
-    let found = walk(
-        reader.left(),
-        &Shape::from_slice(&[tlv_row(0x36), fixed_row(0x57, 1)]).unwrap(),
-    );
-    Ok(Mm::SecurityModeCommand {
-        algs,
-        ksi: Ksi(second % 16 % 8),
-        capability,
-        asi: elements::asi(&found),
-    })
+/// SECURITY MODE COMMAND (TS 24.501 clause 8.2.25).
+#[derive(Drop)]
+pub struct SecurityModeCommand {
+    pub algs: Algs,
+    pub ksi: Ksi,
+    pub capability: Capability,
+    pub asi: Option<Asi>,
 }
 
-/// Writes a SECURITY MODE COMMAND.
-#[tactic(auto, unfolding(crate::specs::SecurityMode::security_mode_command))]
-pub fn write_command(
-    algs: Algs,
-    ksi: Ksi,
-    capability: &Capability,
-    asi: &Option<Asi>,
-    out: &mut Writer,
-) -> Result<(), Full>
-    ensures { Writes (security_mode_command algs ksi capability.now asi.now) out.old out.new result }
-{
-    out.fits(5 + lv_size(capability) + tlv_size(asi))?;
-    write_head(MmKind::SecurityModeCommand, out)?;
-    algs.write(out)?;
-    out.put(&[ksi.0])?;
-    lv(capability, out)?;
-    tlv(0x36, asi, out)
+impl SecurityModeCommand {
+    // Reads what stands behind the head.
+    #[tactic(auto, unfolding(crate::specs::SecurityMode::security_mode_command))]
+    pub(crate) fn read(reader: &mut Reader) -> Result<SecurityModeCommand, BodyRefusal>
+        ensures { Lays result security_mode_command 1 reader.old }
+    {
+        let algs = read_part(1, Frame::V(1), reader)?;
+        let ksi = read_part(2, Frame::V(1), reader)?;
+        let capability = read_part(3, Frame::Lv, reader)?;
+        let found = walk(
+            reader.left(),
+            &Shape::from_slice(&[
+                tlv_row(iei::ADDITIONAL_5G_SECURITY_INFORMATION),
+                fixed_row(iei::SELECTED_EPS_NAS_SECURITY_ALGORITHMS, 2),
+            ])
+            .unwrap(),
+        );
+        Ok(SecurityModeCommand {
+            algs,
+            ksi,
+            capability,
+            asi: known(iei::ADDITIONAL_5G_SECURITY_INFORMATION, &found),
+        })
+    }
+
+    // Tells what stands behind the head, piece by piece.
+    #[tactic(auto, unfolding(crate::specs::SecurityMode::security_mode_command))]
+    pub(crate) fn tell<P: Pieces>(&self, to: &mut P) -> Result<(), P::Refusal>
+        ensures { HearsAll P.with_piece P.refuses to.old to.new (pieces security_mode_command self.now) result }
+    {
+        part(to, Frame::V(1), &self.algs)?;
+        part(to, Frame::V(1), &self.ksi)?;
+        part(to, Frame::Lv, &self.capability)?;
+        element(
+            to,
+            iei::ADDITIONAL_5G_SECURITY_INFORMATION,
+            Form::Tlv,
+            &self.asi,
+        )
+    }
+
+    // What is told is read back: this does nothing.
+    #[tactic(auto, unfolding(crate::specs::SecurityMode::security_mode_command))]
+    pub(crate) fn is_read_back(&self)
+        ensures { TableBack security_mode_command self.now }
+    {
+        self.algs.is_read_back();
+        self.ksi.is_read_back();
+        laws::lv_is_read_back(&self.capability);
+        laws::tlv_is_read_back(iei::ADDITIONAL_5G_SECURITY_INFORMATION, &self.asi);
+    }
 }
 
-/// Reads what stands behind the head of a SECURITY MODE COMPLETE.
-#[tactic(auto, unfolding(crate::specs::SecurityMode::security_mode_complete_layout))]
-pub fn read_complete(alloc: Global, reader: &mut Reader) -> Result<Mm, BodyRefusal>
-    ensures { Lays result (laid security_mode_complete_layout 1 reader.old) }
-{
-    let found = walk(
-        reader.left(),
-        &Shape::from_slice(&[tlve_row(0x71)]).unwrap(),
-    );
-    Ok(Mm::SecurityModeComplete {
-        message: elements::message(alloc, &found)?,
-    })
+/// SECURITY MODE COMPLETE, with the whole request (TS 24.501 clause 8.2.26).
+#[derive(Drop)]
+pub struct SecurityModeComplete {
+    pub message: Option<Octets>,
 }
 
-/// Writes a SECURITY MODE COMPLETE.
-#[tactic(auto, unfolding(crate::specs::SecurityMode::security_mode_complete))]
-pub fn write_complete(message: &Option<Octets>, out: &mut Writer) -> Result<(), Full>
-    ensures { Writes (security_mode_complete message.now) out.old out.new result }
-{
-    out.fits(3 + tlve_size(message))?;
-    write_head(MmKind::SecurityModeComplete, out)?;
-    tlve(0x71, message, out)
+impl SecurityModeComplete {
+    // Reads what stands behind the head.
+    #[tactic(auto, unfolding(crate::specs::SecurityMode::security_mode_complete))]
+    pub(crate) fn read(
+        alloc: Global,
+        reader: &mut Reader,
+    ) -> Result<SecurityModeComplete, BodyRefusal>
+        ensures { Lays result security_mode_complete 1 reader.old }
+    {
+        let found = walk(
+            reader.left(),
+            &Shape::from_slice(&[tlve_row(iei::NAS_MESSAGE_CONTAINER)]).unwrap(),
+        );
+        Ok(SecurityModeComplete {
+            message: known_container(alloc, iei::NAS_MESSAGE_CONTAINER, &found)?,
+        })
+    }
+
+    // Tells what stands behind the head, piece by piece.
+    #[tactic(auto, unfolding(crate::specs::SecurityMode::security_mode_complete))]
+    pub(crate) fn tell<P: Pieces>(&self, to: &mut P) -> Result<(), P::Refusal>
+        ensures { HearsAll P.with_piece P.refuses to.old to.new (pieces security_mode_complete self.now) result }
+    {
+        element(to, iei::NAS_MESSAGE_CONTAINER, Form::Tlve, &self.message)
+    }
+
+    // What is told is read back: this does nothing.
+    #[tactic(auto, unfolding(crate::specs::SecurityMode::security_mode_complete))]
+    pub(crate) fn is_read_back(&self)
+        ensures { TableBack security_mode_complete self.now }
+    {
+        laws::container_is_read_back(iei::NAS_MESSAGE_CONTAINER, &self.message);
+    }
 }
 
-/// Reads what stands behind the head of a SECURITY MODE REJECT.
-#[tactic(auto, unfolding(crate::specs::SecurityMode::security_mode_reject_layout))]
-pub fn read_reject(reader: &mut Reader) -> Result<Mm, BodyRefusal>
-    ensures { Lays result (laid security_mode_reject_layout 1 reader.old) }
-{
-    let cause = octet_part(1, reader)?;
-    Ok(Mm::SecurityModeReject { cause })
+/// SECURITY MODE REJECT (TS 24.501 clause 8.2.27).
+#[derive(Drop)]
+pub struct SecurityModeReject {
+    pub cause: u8,
 }
 
-/// Writes a SECURITY MODE REJECT.
-#[tactic(auto, unfolding(crate::specs::SecurityMode::security_mode_reject))]
-pub fn write_reject(cause: u8, out: &mut Writer) -> Result<(), Full>
-    ensures { Writes (security_mode_reject cause) out.old out.new result }
-{
-    out.fits(4)?;
-    write_head(MmKind::SecurityModeReject, out)?;
-    out.put(&[cause])
+impl SecurityModeReject {
+    // Reads what stands behind the head.
+    #[tactic(auto, unfolding(crate::specs::SecurityMode::security_mode_reject))]
+    pub(crate) fn read(reader: &mut Reader) -> Result<SecurityModeReject, BodyRefusal>
+        ensures { Lays result security_mode_reject 1 reader.old }
+    {
+        let cause = read_part(1, Frame::V(1), reader)?;
+        Ok(SecurityModeReject { cause })
+    }
+
+    // Tells what stands behind the head, piece by piece.
+    #[tactic(auto, unfolding(crate::specs::SecurityMode::security_mode_reject))]
+    pub(crate) fn tell<P: Pieces>(&self, to: &mut P) -> Result<(), P::Refusal>
+        ensures { HearsAll P.with_piece P.refuses to.old to.new (pieces security_mode_reject self.now) result }
+    {
+        part(to, Frame::V(1), &self.cause)
+    }
+
+    // What is told is read back: this does nothing.
+    #[tactic(auto, unfolding(crate::specs::SecurityMode::security_mode_reject))]
+    pub(crate) fn is_read_back(&self)
+        ensures { TableBack security_mode_reject self.now }
+    {
+        self.cause.is_read_back();
+    }
 }

@@ -1,93 +1,149 @@
 //! The messages of a service request.
-ghost use Rattle.std.specs.Prelude.{◌≡◌};
-ghost use Rattle.nas_base.specs.Writing.{Writes};
-ghost use Rattle.nas_layout.specs.Layout.{Lays, laid};
-ghost use Rattle.mm_messages.specs.Service.{service_accept, service_accept_layout, service_reject, service_reject_layout, service_request, service_request_layout};
+ghost use Rattle.nas_layout.specs.Answers.{Lays};
+ghost use Rattle.nas_layout.specs.ReadBack.{TableBack};
+ghost use Rattle.nas_layout.specs.Table.{pieces};
+ghost use Rattle.nas_layout.specs.Telling.{HearsAll};
+ghost use Rattle.mm_messages.specs.Service.{service_accept, service_reject, service_request};
 
-use crate::message::{Mm, write_head};
-use crate::{elements, parts};
-use nas_base::{Full, Ksi, MmKind, Reader, Shape, Writer, walk};
+use nas_base::{Form, Ksi, Reader, Shape, walk};
 use nas_elements::{Identity, Status};
 use nas_layout::{
-    BodyRefusal, Half, lve, lve_size, octet_part, tlv, tlv_row, tlv_size, two_halves,
+    BodyRefusal, Frame, Half, Pieces, element, identity_part, iei, known, laws, part, read_part,
+    tlv_row, two_halves,
 };
 use std::alloc::Global;
 
-/// Reads what stands behind the head of a SERVICE REQUEST.
-#[tactic(auto, unfolding(crate::specs::Service::service_request_layout))]
-pub fn read_request(alloc: Global, reader: &mut Reader) -> Result<Mm, BodyRefusal>
-    ensures { Lays result (laid service_request_layout 1 reader.old) }
-{
-    let first = octet_part(1, reader)?;
-    let identity = parts::identity(alloc, 2, reader)?;
-    let found = walk(reader.left(), &Shape::from_slice(&[tlv_row(0x50)]).unwrap());
-    Ok(Mm::ServiceRequest {
-        ksi: Ksi(first % 16 % 8),
-        service_type: Half(first / 16),
-        identity,
-        status: elements::status(&found),
-    })
+/// SERVICE REQUEST (TS 24.501 clause 8.2.16).
+#[derive(Drop)]
+pub struct ServiceRequest {
+    pub ksi: Ksi,
+    pub service_type: Half,
+    pub identity: Identity,
+    pub status: Option<Status>,
 }
 
-/// Writes a SERVICE REQUEST.
-#[tactic(auto, unfolding(crate::specs::Service::service_request))]
-pub fn write_request(
-    ksi: Ksi,
-    service_type: Half,
-    identity: &Identity,
-    status: &Option<Status>,
-    out: &mut Writer,
-) -> Result<(), Full>
-    ensures { Writes (service_request ksi service_type identity.now status.now) out.old out.new result }
-{
-    out.fits(4 + lve_size(identity) + tlv_size(status))?;
-    write_head(MmKind::ServiceRequest, out)?;
-    out.put(&[two_halves(Half(ksi.0), service_type)])?;
-    lve(identity, out)?;
-    tlv(0x50, status, out)
+impl ServiceRequest {
+    // Reads what stands behind the head.
+    #[tactic(auto, unfolding(crate::specs::Service::service_request))]
+    pub(crate) fn read(alloc: Global, reader: &mut Reader) -> Result<ServiceRequest, BodyRefusal>
+        ensures { Lays result service_request 1 reader.old }
+    {
+        let first: u8 = read_part(1, Frame::V(1), reader)?;
+        let identity = identity_part(alloc, 2, reader)?;
+        let found = walk(
+            reader.left(),
+            &Shape::from_slice(&[tlv_row(iei::PDU_SESSION_STATUS)]).unwrap(),
+        );
+        Ok(ServiceRequest {
+            ksi: Ksi(first % 16 % 8),
+            service_type: Half(first / 16),
+            identity,
+            status: known(iei::PDU_SESSION_STATUS, &found),
+        })
+    }
+
+    // Tells what stands behind the head, piece by piece.
+    #[tactic(auto, unfolding(crate::specs::Service::service_request))]
+    pub(crate) fn tell<P: Pieces>(&self, to: &mut P) -> Result<(), P::Refusal>
+        ensures { HearsAll P.with_piece P.refuses to.old to.new (pieces service_request self.now) result }
+    {
+        part(
+            to,
+            Frame::V(1),
+            &two_halves(Half(self.ksi.0), self.service_type),
+        )?;
+        part(to, Frame::Lve, &self.identity)?;
+        element(to, iei::PDU_SESSION_STATUS, Form::Tlv, &self.status)
+    }
+
+    // What is told is read back: this does nothing.
+    #[tactic(auto, unfolding(crate::specs::Service::service_request), using(crate::proofs::HalvesBack::service_back))]
+    pub(crate) fn is_read_back(&self)
+        ensures { TableBack service_request self.now }
+    {
+        let _ksi = self.ksi.0;
+        let _service_type = self.service_type.0;
+        laws::identity_is_read_back(&self.identity);
+        laws::tlv_is_read_back(iei::PDU_SESSION_STATUS, &self.status);
+    }
 }
 
-/// Reads what stands behind the head of a SERVICE REJECT.
-#[tactic(auto, unfolding(crate::specs::Service::service_reject_layout))]
-pub fn read_reject(reader: &mut Reader) -> Result<Mm, BodyRefusal>
-    ensures { Lays result (laid service_reject_layout 1 reader.old) }
-{
-    let cause = octet_part(1, reader)?;
-    let found = walk(reader.left(), &Shape::from_slice(&[tlv_row(0x50)]).unwrap());
-    Ok(Mm::ServiceReject {
-        cause,
-        status: elements::status(&found),
-    })
+/// SERVICE REJECT (TS 24.501 clause 8.2.18).
+#[derive(Drop)]
+pub struct ServiceReject {
+    pub cause: u8,
+    pub status: Option<Status>,
 }
 
-/// Writes a SERVICE REJECT.
-#[tactic(auto, unfolding(crate::specs::Service::service_reject))]
-pub fn write_reject(cause: u8, status: &Option<Status>, out: &mut Writer) -> Result<(), Full>
-    ensures { Writes (service_reject cause status.now) out.old out.new result }
-{
-    out.fits(4 + tlv_size(status))?;
-    write_head(MmKind::ServiceReject, out)?;
-    out.put(&[cause])?;
-    tlv(0x50, status, out)
+impl ServiceReject {
+    // Reads what stands behind the head.
+    #[tactic(auto, unfolding(crate::specs::Service::service_reject))]
+    pub(crate) fn read(reader: &mut Reader) -> Result<ServiceReject, BodyRefusal>
+        ensures { Lays result service_reject 1 reader.old }
+    {
+        let cause = read_part(1, Frame::V(1), reader)?;
+        let found = walk(
+            reader.left(),
+            &Shape::from_slice(&[tlv_row(iei::PDU_SESSION_STATUS)]).unwrap(),
+        );
+        Ok(ServiceReject {
+            cause,
+            status: known(iei::PDU_SESSION_STATUS, &found),
+        })
+    }
+
+    // Tells what stands behind the head, piece by piece.
+    #[tactic(auto, unfolding(crate::specs::Service::service_reject))]
+    pub(crate) fn tell<P: Pieces>(&self, to: &mut P) -> Result<(), P::Refusal>
+        ensures { HearsAll P.with_piece P.refuses to.old to.new (pieces service_reject self.now) result }
+    {
+        part(to, Frame::V(1), &self.cause)?;
+        element(to, iei::PDU_SESSION_STATUS, Form::Tlv, &self.status)
+    }
+
+    // What is told is read back: this does nothing.
+    #[tactic(auto, unfolding(crate::specs::Service::service_reject))]
+    pub(crate) fn is_read_back(&self)
+        ensures { TableBack service_reject self.now }
+    {
+        laws::tlv_is_read_back(iei::PDU_SESSION_STATUS, &self.status);
+    }
 }
 
-/// Reads what stands behind the head of a SERVICE ACCEPT.
-#[tactic(auto, unfolding(crate::specs::Service::service_accept_layout))]
-pub fn read_accept(reader: &mut Reader) -> Result<Mm, BodyRefusal>
-    ensures { Lays result (laid service_accept_layout 1 reader.old) }
-{
-    let found = walk(reader.left(), &Shape::from_slice(&[tlv_row(0x50)]).unwrap());
-    Ok(Mm::ServiceAccept {
-        status: elements::status(&found),
-    })
+/// SERVICE ACCEPT (TS 24.501 clause 8.2.17).
+#[derive(Drop)]
+pub struct ServiceAccept {
+    pub status: Option<Status>,
 }
 
-/// Writes a SERVICE ACCEPT.
-#[tactic(auto, unfolding(crate::specs::Service::service_accept))]
-pub fn write_accept(status: &Option<Status>, out: &mut Writer) -> Result<(), Full>
-    ensures { Writes (service_accept status.now) out.old out.new result }
-{
-    out.fits(3 + tlv_size(status))?;
-    write_head(MmKind::ServiceAccept, out)?;
-    tlv(0x50, status, out)
+impl ServiceAccept {
+    // Reads what stands behind the head.
+    #[tactic(auto, unfolding(crate::specs::Service::service_accept))]
+    pub(crate) fn read(reader: &mut Reader) -> Result<ServiceAccept, BodyRefusal>
+        ensures { Lays result service_accept 1 reader.old }
+    {
+        let found = walk(
+            reader.left(),
+            &Shape::from_slice(&[tlv_row(iei::PDU_SESSION_STATUS)]).unwrap(),
+        );
+        Ok(ServiceAccept {
+            status: known(iei::PDU_SESSION_STATUS, &found),
+        })
+    }
+
+    // Tells what stands behind the head, piece by piece.
+    #[tactic(auto, unfolding(crate::specs::Service::service_accept))]
+    pub(crate) fn tell<P: Pieces>(&self, to: &mut P) -> Result<(), P::Refusal>
+        ensures { HearsAll P.with_piece P.refuses to.old to.new (pieces service_accept self.now) result }
+    {
+        element(to, iei::PDU_SESSION_STATUS, Form::Tlv, &self.status)
+    }
+
+    // What is told is read back: this does nothing.
+    #[tactic(auto, unfolding(crate::specs::Service::service_accept))]
+    pub(crate) fn is_read_back(&self)
+        ensures { TableBack service_accept self.now }
+    {
+        laws::tlv_is_read_back(iei::PDU_SESSION_STATUS, &self.status);
+    }
 }

@@ -1,28 +1,42 @@
 //! 5GMM STATUS.
-ghost use Rattle.std.specs.Prelude.{◌≡◌};
-ghost use Rattle.nas_base.specs.Writing.{Writes};
-ghost use Rattle.nas_layout.specs.Layout.{Lays, laid};
-ghost use Rattle.mm_messages.specs.StatusMessage.{five_gmm_status, five_gmm_status_layout};
+ghost use Rattle.nas_layout.specs.Answers.{Lays};
+ghost use Rattle.nas_layout.specs.ReadBack.{TableBack};
+ghost use Rattle.nas_layout.specs.Table.{pieces};
+ghost use Rattle.nas_layout.specs.Telling.{HearsAll};
+ghost use Rattle.mm_messages.specs.StatusMessage.{five_gmm_status};
 
-use crate::message::{Mm, write_head};
-use nas_base::{Full, MmKind, Reader, Writer};
-use nas_layout::{BodyRefusal, octet_part};
+use nas_base::Reader;
+use nas_layout::{BodyRefusal, Frame, Pieces, Readable, part, read_part};
 
-/// Reads what stands behind the head of a 5GMM STATUS.
-#[tactic(auto, unfolding(crate::specs::StatusMessage::five_gmm_status_layout))]
-pub fn read(reader: &mut Reader) -> Result<Mm, BodyRefusal>
-    ensures { Lays result (laid five_gmm_status_layout 1 reader.old) }
-{
-    let cause = octet_part(1, reader)?;
-    Ok(Mm::FiveGmmStatus { cause })
+/// 5GMM STATUS (TS 24.501 clause 8.2.29).
+#[derive(Drop)]
+pub struct FiveGmmStatus {
+    pub cause: u8,
 }
 
-/// Writes a 5GMM STATUS.
-#[tactic(auto, unfolding(crate::specs::StatusMessage::five_gmm_status))]
-pub fn write(cause: u8, out: &mut Writer) -> Result<(), Full>
-    ensures { Writes (five_gmm_status cause) out.old out.new result }
-{
-    out.fits(4)?;
-    write_head(MmKind::FiveGmmStatus, out)?;
-    out.put(&[cause])
+impl FiveGmmStatus {
+    // Reads what stands behind the head.
+    #[tactic(auto, unfolding(crate::specs::StatusMessage::five_gmm_status))]
+    pub(crate) fn read(reader: &mut Reader) -> Result<FiveGmmStatus, BodyRefusal>
+        ensures { Lays result five_gmm_status 1 reader.old }
+    {
+        let cause = read_part(1, Frame::V(1), reader)?;
+        Ok(FiveGmmStatus { cause })
+    }
+
+    // Tells what stands behind the head, piece by piece.
+    #[tactic(auto, unfolding(crate::specs::StatusMessage::five_gmm_status))]
+    pub(crate) fn tell<P: Pieces>(&self, to: &mut P) -> Result<(), P::Refusal>
+        ensures { HearsAll P.with_piece P.refuses to.old to.new (pieces five_gmm_status self.now) result }
+    {
+        part(to, Frame::V(1), &self.cause)
+    }
+
+    // What is told is read back: this does nothing.
+    #[tactic(auto, unfolding(crate::specs::StatusMessage::five_gmm_status))]
+    pub(crate) fn is_read_back(&self)
+        ensures { TableBack five_gmm_status self.now }
+    {
+        self.cause.is_read_back();
+    }
 }

@@ -1,113 +1,140 @@
 //! The messages that carry others.
-ghost use Rattle.std.specs.Prelude.{◌≡◌};
-ghost use Rattle.nas_base.specs.Writing.{Writes};
-ghost use Rattle.nas_layout.specs.Layout.{Lays, laid};
-ghost use Rattle.mm_messages.specs.Transport.{dl_nas_transport, dl_nas_transport_layout, ul_nas_transport, ul_nas_transport_layout};
+ghost use Rattle.nas_layout.specs.Answers.{Lays};
+ghost use Rattle.nas_layout.specs.ReadBack.{TableBack};
+ghost use Rattle.nas_layout.specs.Table.{pieces};
+ghost use Rattle.nas_layout.specs.Telling.{HearsAll};
+ghost use Rattle.mm_messages.specs.Transport.{dl_nas_transport, ul_nas_transport};
 
-use crate::elements;
-use crate::message::{Mm, write_head};
-use nas_base::{Form, Full, MmKind, Octets, Reader, Row, Shape, Writer, walk};
+use nas_base::{Form, Octets, Reader, Row, Shape, walk};
 use nas_elements::{Dnn, Slice};
 use nas_layout::{
-    BodyRefusal, Half, container_part, fixed_row, half_tv, half_tv_size, known_dnn, known_slice,
-    lve, lve_size, octet_part, tlv, tlv_row, tlv_size, tv, tv_size,
+    BodyRefusal, Frame, Half, Pieces, container_part, element, fixed_row, iei, known, laws, part,
+    read_part, tlv_row,
 };
 use std::alloc::Global;
 
-/// Reads what stands behind the head of an UL NAS TRANSPORT.
-#[tactic(auto, unfolding(crate::specs::Transport::ul_nas_transport_layout))]
-pub fn read_ul(alloc: Global, reader: &mut Reader) -> Result<Mm, BodyRefusal>
-    ensures { Lays result (laid ul_nas_transport_layout 1 reader.old) }
-{
-    let first = octet_part(1, reader)?;
-    let container = container_part(alloc, 2, reader)?;
-    let found = walk(
-        reader.left(),
-        &Shape::from_slice(&[
-            fixed_row(0x12, 1),
-            Row {
-                iei: 0x80,
-                form: Form::Half,
-            },
-            tlv_row(0x22),
-            tlv_row(0x25),
-            fixed_row(0x59, 1),
-        ])
-        .unwrap(),
-    );
-    Ok(Mm::UlNasTransport {
-        container_type: Half(first % 16),
-        container,
-        psi: elements::psi(&found),
-        request_type: elements::request_type(&found),
-        slice: known_slice(&found),
-        dnn: known_dnn(&found),
-    })
+/// UL NAS TRANSPORT (TS 24.501 clause 8.2.10).
+#[derive(Drop)]
+pub struct UlNasTransport {
+    pub container_type: Half,
+    pub container: Octets,
+    pub psi: Option<u8>,
+    pub request_type: Option<Half>,
+    pub slice: Option<Slice>,
+    pub dnn: Option<Dnn>,
 }
 
-/// Writes an UL NAS TRANSPORT.
-#[tactic(auto, unfolding(crate::specs::Transport::ul_nas_transport))]
-pub fn write_ul(
-    container_type: Half,
-    container: &Octets,
-    psi: &Option<u8>,
-    request_type: &Option<Half>,
-    slice: &Option<Slice>,
-    dnn: &Option<Dnn>,
-    out: &mut Writer,
-) -> Result<(), Full>
-    ensures { Writes (ul_nas_transport container_type container.now psi.now request_type.now slice.now dnn.now) out.old out.new result }
-{
-    out.fits(
-        4 + lve_size(container)
-            + tv_size(psi)
-            + half_tv_size(request_type)
-            + tlv_size(slice)
-            + tlv_size(dnn),
-    )?;
-    write_head(MmKind::UlNasTransport, out)?;
-    out.put(&[container_type.0])?;
-    lve(container, out)?;
-    tv(0x12, psi, out)?;
-    half_tv(Half(8), request_type, out)?;
-    tlv(0x22, slice, out)?;
-    tlv(0x25, dnn, out)
+impl UlNasTransport {
+    // Reads what stands behind the head.
+    #[tactic(auto, unfolding(crate::specs::Transport::ul_nas_transport))]
+    pub(crate) fn read(alloc: Global, reader: &mut Reader) -> Result<UlNasTransport, BodyRefusal>
+        ensures { Lays result ul_nas_transport 1 reader.old }
+    {
+        let container_type = read_part(1, Frame::V(1), reader)?;
+        let container = container_part(alloc, 2, reader)?;
+        let found = walk(
+            reader.left(),
+            &Shape::from_slice(&[
+                fixed_row(iei::PDU_SESSION_ID, 2),
+                Row {
+                    iei: iei::REQUEST_TYPE,
+                    form: Form::Half,
+                },
+                tlv_row(iei::S_NSSAI),
+                tlv_row(iei::DNN),
+                fixed_row(iei::OLD_PDU_SESSION_ID, 2),
+            ])
+            .unwrap(),
+        );
+        Ok(UlNasTransport {
+            container_type,
+            container,
+            psi: known(iei::PDU_SESSION_ID, &found),
+            request_type: known(iei::REQUEST_TYPE, &found),
+            slice: known(iei::S_NSSAI, &found),
+            dnn: known(iei::DNN, &found),
+        })
+    }
+
+    // Tells what stands behind the head, piece by piece.
+    #[tactic(auto, unfolding(crate::specs::Transport::ul_nas_transport))]
+    pub(crate) fn tell<P: Pieces>(&self, to: &mut P) -> Result<(), P::Refusal>
+        ensures { HearsAll P.with_piece P.refuses to.old to.new (pieces ul_nas_transport self.now) result }
+    {
+        part(to, Frame::V(1), &self.container_type)?;
+        part(to, Frame::Lve, &self.container)?;
+        element(to, iei::PDU_SESSION_ID, Form::Fixed(2), &self.psi)?;
+        element(to, iei::REQUEST_TYPE, Form::Half, &self.request_type)?;
+        element(to, iei::S_NSSAI, Form::Tlv, &self.slice)?;
+        element(to, iei::DNN, Form::Tlv, &self.dnn)
+    }
+
+    // What is told is read back: this does nothing.
+    #[tactic(auto, unfolding(crate::specs::Transport::ul_nas_transport))]
+    pub(crate) fn is_read_back(&self)
+        ensures { TableBack ul_nas_transport self.now }
+    {
+        let _container_type = self.container_type.0;
+        laws::container_part_is_read_back(&self.container);
+        laws::octet_is_read_back(iei::PDU_SESSION_ID, &self.psi);
+        laws::half_element_is_read_back(iei::REQUEST_TYPE, &self.request_type);
+        laws::tlv_is_read_back(iei::S_NSSAI, &self.slice);
+        laws::tlv_is_read_back(iei::DNN, &self.dnn);
+    }
 }
 
-/// Reads what stands behind the head of a DL NAS TRANSPORT.
-#[tactic(auto, unfolding(crate::specs::Transport::dl_nas_transport_layout))]
-pub fn read_dl(alloc: Global, reader: &mut Reader) -> Result<Mm, BodyRefusal>
-    ensures { Lays result (laid dl_nas_transport_layout 1 reader.old) }
-{
-    let first = octet_part(1, reader)?;
-    let container = container_part(alloc, 2, reader)?;
-    let found = walk(
-        reader.left(),
-        &Shape::from_slice(&[fixed_row(0x12, 1), fixed_row(0x58, 1)]).unwrap(),
-    );
-    Ok(Mm::DlNasTransport {
-        container_type: Half(first % 16),
-        container,
-        psi: elements::psi(&found),
-        cause: elements::cause(&found),
-    })
+/// DL NAS TRANSPORT (TS 24.501 clause 8.2.11).
+#[derive(Drop)]
+pub struct DlNasTransport {
+    pub container_type: Half,
+    pub container: Octets,
+    pub psi: Option<u8>,
+    pub cause: Option<u8>,
 }
 
-/// Writes a DL NAS TRANSPORT.
-#[tactic(auto, unfolding(crate::specs::Transport::dl_nas_transport))]
-pub fn write_dl(
-    container_type: Half,
-    container: &Octets,
-    psi: &Option<u8>,
-    cause: &Option<u8>,
-    out: &mut Writer,
-) -> Result<(), Full>
-    ensures { Writes (dl_nas_transport container_type container.now psi.now cause.now) out.old out.new result }
-{
-    out.fits(4 + lve_size(container) + tv_size(psi) + tv_size(cause))?;
-    write_head(MmKind::DlNasTransport, out)?;
-    out.put(&[container_type.0])?;
-    lve(container, out)?;
-    tv(0x12, psi, out)?;
-    tv(0x58, cause, out)
+impl DlNasTransport {
+    // Reads what stands behind the head.
+    #[tactic(auto, unfolding(crate::specs::Transport::dl_nas_transport))]
+    pub(crate) fn read(alloc: Global, reader: &mut Reader) -> Result<DlNasTransport, BodyRefusal>
+        ensures { Lays result dl_nas_transport 1 reader.old }
+    {
+        let container_type = read_part(1, Frame::V(1), reader)?;
+        let container = container_part(alloc, 2, reader)?;
+        let found = walk(
+            reader.left(),
+            &Shape::from_slice(&[
+                fixed_row(iei::PDU_SESSION_ID, 2),
+                fixed_row(iei::CAUSE_5GMM, 2),
+            ])
+            .unwrap(),
+        );
+        Ok(DlNasTransport {
+            container_type,
+            container,
+            psi: known(iei::PDU_SESSION_ID, &found),
+            cause: known(iei::CAUSE_5GMM, &found),
+        })
+    }
+
+    // Tells what stands behind the head, piece by piece.
+    #[tactic(auto, unfolding(crate::specs::Transport::dl_nas_transport))]
+    pub(crate) fn tell<P: Pieces>(&self, to: &mut P) -> Result<(), P::Refusal>
+        ensures { HearsAll P.with_piece P.refuses to.old to.new (pieces dl_nas_transport self.now) result }
+    {
+        part(to, Frame::V(1), &self.container_type)?;
+        part(to, Frame::Lve, &self.container)?;
+        element(to, iei::PDU_SESSION_ID, Form::Fixed(2), &self.psi)?;
+        element(to, iei::CAUSE_5GMM, Form::Fixed(2), &self.cause)
+    }
+
+    // What is told is read back: this does nothing.
+    #[tactic(auto, unfolding(crate::specs::Transport::dl_nas_transport))]
+    pub(crate) fn is_read_back(&self)
+        ensures { TableBack dl_nas_transport self.now }
+    {
+        let _container_type = self.container_type.0;
+        laws::container_part_is_read_back(&self.container);
+        laws::octet_is_read_back(iei::PDU_SESSION_ID, &self.psi);
+        laws::octet_is_read_back(iei::CAUSE_5GMM, &self.cause);
+    }
 }

@@ -1,4 +1,5 @@
 pub mod Branches
+pub mod Causes
 pub mod Digits
 pub mod Kinds
 pub mod Octets

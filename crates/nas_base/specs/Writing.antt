@@ -1,5 +1,5 @@
 -- Octets are written one after the other, up to a room.
-use Rattle.std.specs.Prelude.{◌≡◌, ◌<◌, ◌≤◌, ◌+◌, ◌-◌, ℕ, List, [], ◌∷◌, ◌++◌, length, Option, Some, None, Result, Ok, Err}
+use Rattle.std.specs.Prelude.{◌≡◌, ◌<◌, ◌≤◌, ◌+◌, ◌-◌, ℕ, List, ◌∷◌, ◌++◌, length, Result, Ok, Err}
 use Rattle.byteorder.specs.Endian.{big_bytes}
 use Rattle.nas_base.specs.declared.writer.Full.{Full}
 
@@ -15,13 +15,9 @@ lv octets = length octets ∷ octets
 abbrev pub lve : List ℕ → List ℕ
 lve octets = big_bytes 2 (length octets) ++ octets
 
--- an element: its identifier, then the value behind its length (TLV, TS 24.007 clause 11.2.1.1); and one that may be absent
+-- an element: its identifier, then the value behind its length (TLV, TS 24.007 clause 11.2.1.1)
 abbrev pub tlv : ℕ → List ℕ → List ℕ
 tlv iei octets = iei ∷ lv octets
-
-abbrev pub optional_tlv : ℕ → Option (List ℕ) → List ℕ
-optional_tlv iei None = []
-optional_tlv iei (Some octets) = tlv iei octets
 
 -- so many octets fit behind what stands there, or are refused
 abbrev pub Fits : {T : Type 0} → ℕ → List ℕ → Result T Full → Type 0

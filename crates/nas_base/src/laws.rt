@@ -1,4 +1,5 @@
 //! What the definitions of this crate say together. These functions do nothing: their contracts are the laws.
+ghost use Rattle.nas_base.specs.Causes.{MmCausesHaveNumbers, SmCausesHaveNumbers};
 ghost use Rattle.nas_base.specs.Kinds.{KindsHaveTypes};
 ghost use Rattle.nas_base.specs.WalkLaws.{FirstsAreKept, WrittenAreRead};
 
@@ -17,4 +18,14 @@ pub fn firsts_are_kept()
 /// behind it.
 pub fn written_are_read()
     ensures { WrittenAreRead }
+{}
+
+/// The names of the 5GMM causes stand for the numbers that TS 24.501 gives them.
+pub fn mm_causes_have_numbers()
+    ensures { MmCausesHaveNumbers }
+{}
+
+/// The names of the 5GSM causes stand for the numbers that TS 24.501 gives them.
+pub fn sm_causes_have_numbers()
+    ensures { SmCausesHaveNumbers }
 {}

@@ -8,7 +8,7 @@ mod elements;
 mod head;
 mod kind;
 mod ksi;
-mod laws;
+pub mod laws;
 mod memory;
 pub mod mm_cause;
 mod mm_kind;
@@ -31,7 +31,6 @@ pub use crate::digits::Digits;
 pub use crate::elements::{Elements, walk};
 pub use crate::kind::Kind;
 pub use crate::ksi::Ksi;
-pub use crate::laws::{firsts_are_kept, kinds_have_types, written_are_read};
 pub use crate::memory::Memory;
 pub use crate::mm_kind::MmKind;
 pub use crate::moment::Moment;
@@ -46,6 +45,3 @@ pub use crate::sm_kind::SmKind;
 pub use crate::state_words::{AmfWord, MmWord, SmWord, SmfWord};
 pub use crate::supi::Supi;
 pub use crate::writer::{Full, Writer};
-
-#[cfg(test)]
-mod tests;

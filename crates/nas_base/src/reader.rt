@@ -1,5 +1,5 @@
 //! Reading octets.
-ghost use Rattle.std.specs.Prelude.{◌≡◌, ℕ};
+ghost use Rattle.std.specs.Prelude.{◌≡◌};
 ghost use Rattle.nas_base.specs.Reading.{Gives, halves_at, lv_at, lve_at, octets_at};
 
 use byteorder::{BigEndian, ByteOrder};

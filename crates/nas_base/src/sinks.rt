@@ -1,6 +1,7 @@
 //! Sinks in memory.
-ghost use Rattle.std.specs.Prelude.{◌≡◌, ◌↔◌, ◌+◌, ◌-◌, ◌^◌, [], min, Some, Contains, IsErrOf};
+ghost use Rattle.std.specs.Prelude.{◌≡◌, ◌/◌, [], Some, if◌then◌else◌, length, take};
 ghost use Rattle.nas_base.specs.Outside.{Tells, is_failed};
+ghost use Rattle.nas_base.specs.Sinks.{Tries};
 
 use crate::{Sink, WriteRefusal};
 use std::alloc::Global;
@@ -57,7 +58,8 @@ impl Sink for MemorySink {
     }
 }
 
-/// A sink in memory with a list of the calls that are to fail. A call that fails writes the first half of its octets.
+/// A sink in memory with a list of the calls that are to fail. A call that fails writes the first half of its octets, of an odd
+/// number the smaller half.
 #[derive(Drop)]
 pub struct FaultySink {
     octets: Vec<u8>,
@@ -95,6 +97,17 @@ impl FaultySink {
     }
 }
 
+// What a call writes of the octets, where it is to fail and where it isn't.
+fn tried(octets: &[u8], fails: bool) -> &[u8]
+    ensures { result.now ≡ (if fails then take (length octets.now / 2) octets.now else octets.now) }
+{
+    if fails {
+        octets.split_at(octets.len() / 2).0
+    } else {
+        octets
+    }
+}
+
 impl Sink for FaultySink {
     ghost use Rattle.std.specs.Prelude.{Some};
 
@@ -105,21 +118,19 @@ impl Sink for FaultySink {
     fn write(&mut self, _alloc: Global, octets: &[u8]) -> Result<(), WriteRefusal>
         ensures tells { Tells is_failed (Some self.old.written) (Some self.new.written) self.old.faults self.new.faults octets.now result }
 
-        // It fails exactly at the calls that are listed.
-        ensures list { self.new.failing ≡ self.old.failing }
-        ensures calls { self.new.calls ≡ min (self.old.calls + 1) (2 ^ 64 - 1) }
-        ensures failed { IsErrOf result WriteRefusal.Failed ↔ Contains self.old.failing self.new.calls }
+        // It fails exactly at the calls that are listed, where there is memory for the half.
+        ensures tries { Tries result octets.now self.old self.new }
     {
         self.calls = self.calls.saturating_add(1);
-        if self.failing.contains(&self.calls) {
+        let fails = self.failing.contains(&self.calls);
+        if self.octets.extend_from_slice(tried(octets, fails)).is_err() {
+            return Err(WriteRefusal::Memory);
+        }
+        if fails {
             self.faults = self.faults.saturating_add(1);
-            let _ = self.octets.extend_from_slice(&octets[..octets.len() / 2]);
             return Err(WriteRefusal::Failed);
         }
-        match self.octets.extend_from_slice(octets) {
-            Ok(()) => Ok(()),
-            Err(_) => Err(WriteRefusal::Memory),
-        }
+        Ok(())
     }
 
     fn faults(&self) -> u64 {

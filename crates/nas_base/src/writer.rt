@@ -87,7 +87,7 @@ impl Writer {
         requires { length octets.now ≤ 255 }
         ensures { Writes (lv octets.now) self.old self.new result }
     {
-        self.counted(&[octets.len() as u8], octets)
+        self.put_headed(&[octets.len() as u8], octets)
     }
 
     /// Writes the octets behind their length of two octets (LV-E, TS 24.007 clause 11.2.1.1).
@@ -97,16 +97,20 @@ impl Writer {
     {
         let mut size = [0; 2];
         BigEndian::write_u16(&mut size, octets.len() as u16);
-        self.counted(&size, octets)
+        self.put_headed(&size, octets)
     }
 
-    // Writes a length and the octets, both or neither.
-    fn counted(&mut self, size: &[u8], octets: &[u8]) -> Result<(), Full>
-        requires { length size.now + length octets.now < 2 ^ 32 }
-        ensures { Writes (size.now ++ octets.now) self.old self.new result }
+    /// Writes octets behind a head of others, such as an identifier and a length: both or neither.
+    ///
+    /// # Errors
+    ///
+    /// `Full` exactly where they don't fit together; nothing is then written.
+    pub fn put_headed(&mut self, head: &[u8], octets: &[u8]) -> Result<(), Full>
+        requires { length head.now + length octets.now < 2 ^ 32 }
+        ensures { Writes (head.now ++ octets.now) self.old self.new result }
     {
-        self.fits(size.len() + octets.len())?;
-        self.put(size)?;
+        self.fits(head.len() + octets.len())?;
+        self.put(head)?;
         self.put(octets)
     }
 }

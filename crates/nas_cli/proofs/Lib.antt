@@ -4,3 +4,4 @@ pub mod MachineLaws
 pub mod OutputLaws
 pub mod PlanLaws
 pub mod SayLaws
+pub mod VectorInputs

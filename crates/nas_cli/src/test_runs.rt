@@ -1,10 +1,7 @@
 //! Runs over objects in memory, for the tests: their files, and what they are to write.
-use crate::program::nas_in_memory;
 use crate::shelf::MemoryFiles;
 use crate::words::Words;
-use nas_base::MemorySink;
 use std::alloc::Global;
-use std::process::Abort;
 use std::test::Fail;
 
 /// The standard configuration, but for the subscriber, which another handset has.
@@ -17,9 +14,6 @@ pub const UNKNOWN: &str = "register\nto-net 1\nto-ue 1\n";
 /// Its transcript.
 pub const UNKNOWN_TRANSCRIPT: &str =
     "nas transcript 1\n1 register\n  up 1 7e004179000d0100f110f0ff000000000000102e02a020\n  ue Registering connected - -\n  net none - -\n  honest yes agree yes\n2 to-net 1\n  down 1 7e004403\n  ue Registering connected - -\n  net none - -\n  honest yes agree yes\n3 to-ue 1\n  ue Deregistered idle - -\n  net none - -\n  honest yes agree yes\nend 3 events honest yes agree yes\n";
-
-/// The transcript of a script without events.
-pub const NO_EVENT: &str = "nas transcript 1\nend 0 events honest yes agree yes\n";
 
 /// The words `run config script`.
 pub fn run_words(alloc: Global) -> Result<Words, Fail> {
@@ -36,22 +30,4 @@ pub fn files(alloc: Global, config: &[u8], script: &[u8]) -> Result<MemoryFiles,
     files.put(alloc, "config", config)?;
     files.put(alloc, "script", script)?;
     Ok(files)
-}
-
-/// Runs both files, and compares.
-pub fn compare(
-    rt: &impl Abort,
-    alloc: Global,
-    config: &[u8],
-    script: &[u8],
-    status: u8,
-    text: &str,
-) -> Result<(), Fail> {
-    let words = run_words(alloc)?;
-    let mut files = files(alloc, config, script)?;
-    let mut out = MemorySink::new(alloc);
-    let answer = nas_in_memory(alloc, &words, &mut files, &mut out);
-    assert_eq!(rt; answer.0, status);
-    assert_eq!(rt; out.octets(), text.as_bytes());
-    Ok(())
 }

@@ -4,6 +4,7 @@ use crate::shelf::{FaultyFiles, MemoryFiles};
 use crate::test_runs::{CONFIG, UNKNOWN, UNKNOWN_TRANSCRIPT, files, run_words};
 use crate::words::Words;
 use nas_base::{FaultySink, MemorySink};
+use std::alloc::Global;
 use std::process::Abort;
 use std::test::Fail;
 
@@ -137,6 +138,44 @@ fn an_output_that_fails_has_a_front_of_the_transcript(rt: HostRuntime) -> Result
     assert_eq!(rt; nas(alloc, &words, &mut files, &mut out).0, 0);
     assert_eq!(rt; out.octets(), UNKNOWN_TRANSCRIPT.as_bytes());
     Ok(())
+}
+
+// A script of so many lines `to-ue 1`, which do nothing.
+fn deliveries(alloc: Global, count: u32) -> Result<Vec<u8>, Fail> {
+    let mut script = Vec::new(alloc);
+    for _ in 0..count {
+        script.extend_from_slice(b"to-ue 1\n")?;
+    }
+    Ok(script)
+}
+
+// Runs a script, and compares the status and the end of what is written.
+fn compare_end<R: Abort + AllocGlobal>(
+    rt: &R,
+    script: &[u8],
+    status: u8,
+    end: &[u8],
+) -> Result<(), Fail> {
+    let alloc = rt.alloc();
+    let mut files = files(alloc, CONFIG.as_bytes(), script)?;
+    let mut out = MemorySink::new(alloc);
+    let words = run_words(alloc)?;
+    assert_eq!(rt; nas(alloc, &words, &mut files, &mut out).0, status);
+    assert!(rt; out.octets().ends_with(end));
+    Ok(())
+}
+
+#[test]
+fn limits_hold_at_their_edges(rt: HostRuntime) -> Result<(), Fail> {
+    let alloc = rt.alloc();
+    let feeds = vec![in alloc; b'\n'; 1_048_576]?;
+    compare_end(&rt, &feeds, 0, b"end 0 events honest yes agree yes\n")?;
+    let longer = vec![in alloc; b'\n'; 1_048_577]?;
+    compare_end(&rt, &longer, 11, b"nas: too long 1048577\n")?;
+    let most = deliveries(alloc, 65536)?;
+    compare_end(&rt, &most, 0, b"end 65536 events honest yes agree yes\n")?;
+    let more = deliveries(alloc, 65537)?;
+    compare_end(&rt, &more, 11, b"nas: too long 65537\n")
 }
 
 const VECTORS: &str =

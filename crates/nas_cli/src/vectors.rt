@@ -78,7 +78,7 @@ fn append_value(alloc: Global, text: &mut Vec<u8>, name: &str, value: &[u8]) -> 
 }
 
 // Appends the lines of AES and CMAC.
-#[tactic(auto, unfolding(crate::specs::Vectors::cipher_lines))]
+#[tactic(auto, unfolding(crate::specs::Vectors::cipher_lines), using(crate::proofs::VectorInputs::vector_steps))]
 fn append_ciphers(alloc: Global, text: &mut Vec<u8>) -> Result<(), Memory>
     ensures { OnOk result (text.new.items ≡ text.old.items ++ cipher_lines) }
 {
@@ -88,7 +88,7 @@ fn append_ciphers(alloc: Global, text: &mut Vec<u8>) -> Result<(), Memory>
 }
 
 // Appends the lines of MILENAGE.
-#[tactic(auto, unfolding(crate::specs::Vectors::milenage_lines))]
+#[tactic(auto, unfolding(crate::specs::Vectors::milenage_lines), using(crate::proofs::VectorInputs::vector_steps))]
 fn append_milenage(alloc: Global, text: &mut Vec<u8>) -> Result<(), Memory>
     ensures { OnOk result (text.new.items ≡ text.old.items ++ milenage_lines) }
 {
@@ -99,7 +99,7 @@ fn append_milenage(alloc: Global, text: &mut Vec<u8>) -> Result<(), Memory>
 }
 
 // Appends what an authentication vector is made of.
-#[tactic(auto, unfolding(crate::specs::Vectors::output_lines))]
+#[tactic(auto, unfolding(crate::specs::Vectors::output_lines), using(crate::proofs::VectorInputs::vector_steps))]
 fn append_outputs(alloc: Global, text: &mut Vec<u8>, opc: &[u8; 16]) -> Result<(), Memory>
     ensures { OnOk result (text.new.items ≡ text.old.items ++ output_lines opc.now) }
 {
@@ -112,7 +112,7 @@ fn append_outputs(alloc: Global, text: &mut Vec<u8>, opc: &[u8; 16]) -> Result<(
 }
 
 // Appends what an AUTS is made of.
-#[tactic(auto, unfolding(crate::specs::Vectors::resynchronisation_lines))]
+#[tactic(auto, unfolding(crate::specs::Vectors::resynchronisation_lines), using(crate::proofs::VectorInputs::vector_steps))]
 fn append_resynchronisation(alloc: Global, text: &mut Vec<u8>, opc: &[u8; 16]) -> Result<(), Memory>
     ensures { OnOk result (text.new.items ≡ text.old.items ++ resynchronisation_lines opc.now) }
 {
@@ -126,7 +126,7 @@ fn append_resynchronisation(alloc: Global, text: &mut Vec<u8>, opc: &[u8; 16]) -
 }
 
 // Appends the line of HMAC.
-#[tactic(auto, unfolding(crate::specs::Vectors::hmac_line))]
+#[tactic(auto, unfolding(crate::specs::Vectors::hmac_line), using(crate::proofs::VectorInputs::vector_steps))]
 fn append_hmac(alloc: Global, text: &mut Vec<u8>) -> Result<(), Memory>
     ensures { OnOk result (text.new.items ≡ text.old.items ++ hmac_line) }
 {

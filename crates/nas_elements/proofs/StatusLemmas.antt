@@ -1,5 +1,5 @@
 -- Bits and the octets that they make.
-use Rattle.std.proofs.Common.{◌≡◌, ◌<◌, ◌≤◌, ◌+◌, ◌-◌, ◌*◌, ◌/◌, ◌%◌, ◌^◌, ◌==◌, ◌&&◌, ℕ, zero, suc, Bool, true, false, List, [], ◌∷◌, ◌++◌, length, take, drop, Some, is_some, arith, refl, ap, subst, ◌∙◌}
+use Rattle.std.proofs.Common.{◌≡◌, ◌<◌, ◌≤◌, ◌+◌, ◌-◌, ◌*◌, ◌/◌, ◌%◌, ◌^◌, ◌==◌, ◌&&◌, ℕ, zero, suc, Bool, true, false, List, [], ◌∷◌, ◌++◌, length, take, drop, get_or, drop-cons, Some, is_some, arith, refl, ap, subst, ◌∙◌}
 use Rattle.std.proofs.Math.ListN.{replicate, set}
 use Rattle.std.proofs.lemmas.Bool.Decides.{nat_tests}
 use Rattle.std.proofs.lemmas.Grind.{common_steps}
@@ -61,11 +61,10 @@ unpack_step places i left octet more told =
     let next : bits (length places - i) left ≡ (left % 2 == 1) ∷ bits (length places - (i + 1)) (left / 2) = ap (λ n. bits n left) e in
     grind (arith, common_steps, next, told)
 
-pub both_step : (places one other : List Bool) (i : ℕ) (bit its : Bool) → i < length places
-    → drop i one ≡ bit ∷ drop (i + 1) one → drop i other ≡ its ∷ drop (i + 1) other
+pub both_step : (places one other : List Bool) (i : ℕ) → i < length places → i < length one → i < length other
     → take i places ++ both (drop i one) (drop i other) ≡ both one other
-    → take (i + 1) (set places i (bit && its)) ++ both (drop (i + 1) one) (drop (i + 1) other) ≡ both one other
-both_step places one other i bit its more first second told =
-    let next : both (drop i one) (drop i other) ≡ (bit && its) ∷ both (drop (i + 1) one) (drop (i + 1) other) =
-    ap (λ xs. both xs (drop i other)) first ∙ ap (λ ys. both (bit ∷ drop (i + 1) one) ys) second in
+    → take (i + 1) (set places i (get_or one i false && get_or other i false)) ++ both (drop (i + 1) one) (drop (i + 1) other) ≡ both one other
+both_step places one other i more first second told =
+    let next : both (drop i one) (drop i other) ≡ (get_or one i false && get_or other i false) ∷ both (drop (suc i) one) (drop (suc i) other) =
+    ap (λ xs. both xs (drop i other)) (drop-cons one i false first) ∙ ap (λ ys. both (get_or one i false ∷ drop (suc i) one) ys) (drop-cons other i false second) in
     grind (arith, common_steps, next, told)

@@ -1,10 +1,11 @@
 //! The address of a session.
 ghost use Rattle.std.specs.Prelude.{◌≡◌, ◌≤◌, length};
 ghost use Rattle.nas_base.specs.Writing.{Writes};
-ghost use Rattle.nas_elements.specs.Address.{address_front, address_in, address_octets};
+ghost use Rattle.nas_elements.specs.Address.{address_front, address_in, address_octets, v4_in, v4v6_in, v6_in};
 ghost use Rattle.nas_elements.specs.Reads.{Reads};
 
 use crate::Wrong;
+use arrayvec::ArrayVec;
 use nas_base::{Full, Writer};
 
 // The kinds of addresses.
@@ -16,7 +17,7 @@ const IPV4V6: u8 = 3;
 
 /// A PDU address (TS 24.501 clause 9.11.4.10): an IPv4 address, the interface identifier of an IPv6 address, or this identifier
 /// and then an IPv4 address.
-#[derive(Clone, Copy, Debug, PartialEq, Eq)]
+#[derive(Clone, Copy, PartialEq, Eq)]
 pub enum Address {
     V4([u8; 4]),
     V6([u8; 8]),
@@ -50,22 +51,30 @@ impl Address {
     pub fn write(&self, out: &mut Writer) -> Result<(), Full>
         ensures { Writes (address_octets self.now) out.old out.new result }
     {
-        out.fits(self.size())?;
+        out.put(self.octets().as_slice())
+    }
+
+    /// Its octets: 5, 9 or 13.
+    pub fn octets(&self) -> ArrayVec<u8, 13>
+        ensures { result.items ≡ address_octets self.now }
+    {
+        let mut octets = ArrayVec::new();
         match self {
             Address::V4(v4) => {
-                out.put(&[IPV4])?;
-                out.put(v4)
+                octets.push(IPV4);
+                octets.try_extend_from_slice(v4).unwrap();
             }
             Address::V6(v6) => {
-                out.put(&[IPV6])?;
-                out.put(v6)
+                octets.push(IPV6);
+                octets.try_extend_from_slice(v6).unwrap();
             }
             Address::V4V6(v6, v4) => {
-                out.put(&[IPV4V6])?;
-                out.put(v6)?;
-                out.put(v4)
+                octets.push(IPV4V6);
+                octets.try_extend_from_slice(v6).unwrap();
+                octets.try_extend_from_slice(v4).unwrap();
             }
         }
+        octets
     }
 
     /// The number of its octets: 5, 9 or 13.
@@ -73,44 +82,52 @@ impl Address {
         ensures value { result ≡ length (address_octets self.now) }
         ensures limit { result ≤ 13 }
     {
-        match self {
-            Address::V4(v4) => 1 + of_four(v4),
-            Address::V6(v6) => 1 + of_eight(v6),
-            Address::V4V6(v6, v4) => 1 + of_eight(v6) + of_four(v4),
-        }
+        self.octets().len()
     }
 
     // The address in the octets, if there is one.
     fn from_slice(octets: &[u8]) -> Option<Address>
         ensures { result ≡ address_in octets.now }
     {
-        match octets {
-            [kind, v4 @ ..] if *kind % 8 == IPV4 => Some(Address::V4(v4.try_into().ok()?)),
-            [kind, v6 @ ..] if *kind % 8 == IPV6 => Some(Address::V6(v6.try_into().ok()?)),
-            [kind, both @ ..] if *kind % 8 == IPV4V6 && both.len() == 12 => {
-                let (v6, v4) = both.split_at(8);
-                Some(Address::V4V6(v6.try_into().ok()?, v4.try_into().ok()?))
-            }
+        let [kind, behind @ ..] = octets else {
+            return None;
+        };
+        match *kind % 8 {
+            IPV4 => v4_of(behind),
+            IPV6 => v6_of(behind),
+            IPV4V6 => v4v6_of(behind),
             _ => None,
         }
     }
 }
 
-// The number of an IPv4 address's octets, and that of an interface identifier's.
-fn of_four(v4: &[u8; 4]) -> usize
-    ensures value { result ≡ length v4.now }
-    ensures four { result ≡ 4 }
+// An IPv4 address, an interface identifier, or both, where there are so many octets as they have.
+fn v4_of(octets: &[u8]) -> Option<Address>
+    ensures { result ≡ v4_in octets.now }
 {
-    let _v4 = *v4;
-    v4.len()
+    match octets.try_into() {
+        Ok(v4) => Some(Address::V4(v4)),
+        Err(_) => None,
+    }
 }
 
-fn of_eight(v6: &[u8; 8]) -> usize
-    ensures value { result ≡ length v6.now }
-    ensures eight { result ≡ 8 }
+fn v6_of(octets: &[u8]) -> Option<Address>
+    ensures { result ≡ v6_in octets.now }
 {
-    let _v6 = *v6;
-    v6.len()
+    match octets.try_into() {
+        Ok(v6) => Some(Address::V6(v6)),
+        Err(_) => None,
+    }
+}
+
+fn v4v6_of(octets: &[u8]) -> Option<Address>
+    ensures { result ≡ v4v6_in octets.now }
+{
+    if octets.len() != 12 {
+        return None;
+    }
+    let (v6, v4) = octets.split_at(8);
+    Some(Address::V4V6(v6.try_into().unwrap(), v4.try_into().unwrap()))
 }
 
 // How many octets are the front of an address's.

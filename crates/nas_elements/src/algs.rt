@@ -1,4 +1,5 @@
 //! The algorithms that protect messages.
+ghost use Rattle.std.specs.Prelude.{◌≡◌};
 ghost use Rattle.nas_base.specs.Writing.{Writes};
 ghost use Rattle.nas_elements.specs.Algs.{algs_in, algs_octets};
 ghost use Rattle.nas_elements.specs.Reads.{Reads};
@@ -9,7 +10,7 @@ use std::marker::Model;
 
 /// The NAS security algorithms: that of ciphering, 5G-EA, and that of integrity, 5G-IA, each by its number, 0 to 15
 /// (TS 24.501 clause 9.11.3.34).
-#[derive(Clone, Copy, Debug, PartialEq, Eq)]
+#[derive(Clone, Copy, PartialEq, Eq)]
 pub struct Algs {
     pub nea: u8,
     pub nia: u8,
@@ -57,6 +58,13 @@ impl Algs {
     pub fn write(&self, out: &mut Writer) -> Result<(), Full>
         ensures { Writes (algs_octets self.now) out.old out.new result }
     {
-        out.put(&[16 * self.nea + self.nia])
+        out.put(&self.octets())
+    }
+
+    /// Its octet.
+    pub fn octets(&self) -> [u8; 1]
+        ensures { result ≡ algs_octets self.now }
+    {
+        [16 * self.nea + self.nia]
     }
 }

@@ -14,7 +14,7 @@ const SIZE: usize = 6;
 /// The session AMBR, the aggregate maximum bit rate of a session: for the downlink and for the uplink a number of `down` or
 /// `up`, 0 to 65,535, in the unit that `down_unit` or `up_unit` tells (TS 24.501 clause 9.11.4.14). The units are kept as they
 /// are.
-#[derive(Clone, Copy, Debug, PartialEq, Eq)]
+#[derive(Clone, Copy, PartialEq, Eq)]
 pub struct Ambr {
     pub down_unit: u8,
     pub down: u16,
@@ -48,16 +48,23 @@ impl Ambr {
     pub fn write(&self, out: &mut Writer) -> Result<(), Full>
         ensures { Writes (ambr_octets self.now) out.old out.new result }
     {
+        out.put(&self.octets())
+    }
+
+    /// Its octets.
+    pub fn octets(&self) -> [u8; 6]
+        ensures { result ≡ ambr_octets self.now }
+    {
         let [down_high, down_low] = in_two_octets(self.down);
         let [up_high, up_low] = in_two_octets(self.up);
-        out.put(&[
+        [
             self.down_unit,
             down_high,
             down_low,
             self.up_unit,
             up_high,
             up_low,
-        ])
+        ]
     }
 
     // The session AMBR in the octets, if there is one.

@@ -8,7 +8,7 @@ use crate::Wrong;
 use nas_base::{Full, Writer};
 
 /// The additional 5G security information, one octet, kept whole (TS 24.501 clause 9.11.3.12).
-#[derive(Clone, Copy, Debug, PartialEq, Eq)]
+#[derive(Clone, Copy)]
 pub struct Asi(pub u8);
 
 impl Asi {
@@ -37,7 +37,14 @@ impl Asi {
     pub fn write(&self, out: &mut Writer) -> Result<(), Full>
         ensures { Writes (asi_octets self.now) out.old out.new result }
     {
-        out.put(&[self.0])
+        out.put(&self.octets())
+    }
+
+    /// Its octet.
+    pub fn octets(&self) -> [u8; 1]
+        ensures { result ≡ asi_octets self.now }
+    {
+        [self.0]
     }
 
     /// Whether the handset is to send the whole initial message (bit 2, RINMR).

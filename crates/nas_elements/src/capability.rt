@@ -13,7 +13,7 @@ const MOST: usize = 8;
 
 /// The UE security capability, 2 to 8 octets: the first has 5G-EA0 in bit 8 to 5G-EA7 in bit 1, the second 5G-IA0 to
 /// 5G-IA7 (TS 24.501 clause 9.11.3.54).
-#[derive(Debug, Drop, PartialEq, Eq)]
+#[derive(Drop)]
 pub struct Capability {
     pub items: ArrayVec<u8, 8>,
 }

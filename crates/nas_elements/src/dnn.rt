@@ -15,7 +15,7 @@ const LONGEST: usize = 63;
 
 /// A data network name: one or more labels, each a length octet of 1 to 63 and then so many octets, at most 100 octets
 /// in all (TS 23.003 clause 9.1, TS 24.501 clause 9.11.2.1B).
-#[derive(Debug, Drop, PartialEq, Eq)]
+#[derive(Drop, PartialEq, Eq)]
 pub struct Dnn {
     pub items: ArrayVec<u8, 100>,
 }

@@ -9,13 +9,12 @@ use crate::Wrong;
 use crate::layout::{Line, met_by};
 use crate::numbers::{in_four_octets, in_two_octets};
 use crate::packed::{plmn_of, plmn_to};
-use arrayvec::ArrayVec;
 use byteorder::{BigEndian, ByteOrder};
 use nas_base::{Full, Plmn, Writer};
 
 /// The 5G-GUTI: the network, the AMF in it (the region, and set and pointer as one number of 10 and 6 bits), and the 5G-TMSI
 /// that this AMF gave (TS 23.003 clause 2.10.1).
-#[derive(Debug, Drop, PartialEq, Eq)]
+#[derive(Drop)]
 pub struct Guti {
     pub plmn: Plmn,
     pub region: u8,
@@ -24,7 +23,7 @@ pub struct Guti {
 }
 
 /// The 5G-S-TMSI: what is left of a 5G-GUTI within its region (TS 23.003 clause 2.11).
-#[derive(Clone, Copy, Debug, PartialEq, Eq)]
+#[derive(Clone, Copy)]
 pub struct Stmsi {
     pub set_pointer: u16,
     pub tmsi: u32,
@@ -41,7 +40,6 @@ impl Guti {
     /// # Errors
     ///
     /// `Wrong` exactly where no 5G-GUTI has these octets.
-    #[tactic(auto, using(crate::proofs::GutiFronts::wrong_guti))]
     pub fn read(octets: &[u8]) -> Result<Guti, Wrong>
         ensures { Reads guti_in octets.now result }
     {
@@ -61,17 +59,17 @@ impl Guti {
     pub fn write(&self, out: &mut Writer) -> Result<(), Full>
         ensures { Writes (guti_octets self.now) out.old out.new result }
     {
-        let mut octets = ArrayVec::<u8, 11>::new();
-        octets.push(GUTI);
-        octets.try_extend_from_slice(&plmn_to(&self.plmn)).unwrap();
-        octets.push(self.region);
-        octets
-            .try_extend_from_slice(&in_two_octets(self.set_pointer))
-            .unwrap();
-        octets
-            .try_extend_from_slice(&in_four_octets(self.tmsi))
-            .unwrap();
-        out.put(octets.as_slice())
+        out.put(&self.octets())
+    }
+
+    /// Its 11 octets.
+    pub fn octets(&self) -> [u8; 11]
+        ensures { result ≡ guti_octets self.now }
+    {
+        let [a, b, c] = plmn_to(&self.plmn);
+        let [high, low] = in_two_octets(self.set_pointer);
+        let [d, e, f, g] = in_four_octets(self.tmsi);
+        [GUTI, a, b, c, self.region, high, low, d, e, f, g]
     }
 
     /// An equal value.
@@ -113,18 +111,6 @@ impl Guti {
     }
 }
 
-// What a place of a list holds that isn't taken: lists of a fixed size need a value for it.
-impl Default for Guti {
-    fn default() -> Self {
-        Guti {
-            plmn: Plmn::from_codes(&[0, 0, 1], &[0, 1]).unwrap(),
-            region: 0,
-            set_pointer: 0,
-            tmsi: 0,
-        }
-    }
-}
-
 impl Stmsi {
     /// The 5G-S-TMSI in the octets.
     ///
@@ -151,15 +137,16 @@ impl Stmsi {
     pub fn write(&self, out: &mut Writer) -> Result<(), Full>
         ensures { Writes (stmsi_octets self.now) out.old out.new result }
     {
-        let mut octets = ArrayVec::<u8, 7>::new();
-        octets.push(STMSI);
-        octets
-            .try_extend_from_slice(&in_two_octets(self.set_pointer))
-            .unwrap();
-        octets
-            .try_extend_from_slice(&in_four_octets(self.tmsi))
-            .unwrap();
-        out.put(octets.as_slice())
+        out.put(&self.octets())
+    }
+
+    /// Its 7 octets.
+    pub fn octets(&self) -> [u8; 7]
+        ensures { result ≡ stmsi_octets self.now }
+    {
+        let [high, low] = in_two_octets(self.set_pointer);
+        let [a, b, c, d] = in_four_octets(self.tmsi);
+        [STMSI, high, low, a, b, c, d]
     }
 
     // The 5G-S-TMSI in the octets, if there is one.

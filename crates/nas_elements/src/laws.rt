@@ -29,7 +29,6 @@ pub fn capability_is_read_back(capability: &Capability)
 }
 
 /// A SUCI that is written is read back.
-#[tactic(auto, using(crate::proofs::ReadBack::suci_back))]
 pub fn suci_is_read_back(suci: &Suci)
     ensures { suci_in (suci_octets suci.now) ≡ Some suci.now }
 {

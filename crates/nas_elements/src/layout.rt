@@ -1,6 +1,6 @@
 //! Layouts: what may stand in each octet of a value.
 ghost use Rattle.std.specs.Prelude.{◌≡◌};
-ghost use Rattle.nas_elements.specs.Layout.{digit_or_filler, meets, met, one_or_two_digits};
+ghost use Rattle.nas_elements.specs.Layout.{meets, met, one_or_two_digits};
 
 use crate::packed::FILLER;
 
@@ -47,22 +47,15 @@ fn is_one_or_two_digits(octet: u8) -> bool
 }
 
 /// How many octets meet their lines, up to the first that doesn't, or to the end of the octets or of the lines.
-#[tactic(auto, using(crate::proofs::LayoutLaws::met_none))]
 pub fn met_by(lines: &[Line], octets: &[u8]) -> usize
     ensures { result ≡ met 0 lines.now octets.now }
 {
-    let mut at = 0;
     let mut before = 0;
-    let mut left = octets;
-    for line in lines {
-        match left {
-            [octet, rest @ ..] if line.is_met(before, *octet) => {
-                before = *octet;
-                left = rest;
-                at += 1;
-            }
-            _ => return at,
+    for (at, line) in lines.iter().enumerate() {
+        if at == octets.len() || !line.is_met(before, octets[at]) {
+            return at;
         }
+        before = octets[at];
     }
-    at
+    lines.len()
 }

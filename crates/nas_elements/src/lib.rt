@@ -1,4 +1,5 @@
-//! The information elements of 5GMM and 5GSM messages, each between octets and a value (TS 24.501 clause 9.11).
+//! The information elements of 5GMM and 5GSM messages, each between octets and a value (TS 24.501 clause 9.11): `read` answers
+//! the value that octets have, or where they are wrong, and `write` writes a value's octets.
 #![tactic(auto)]
 
 mod address;
@@ -9,12 +10,8 @@ mod capability;
 mod dnn;
 mod guti;
 mod identity;
-#[cfg(test)]
-mod identity_tests;
-mod laws;
+pub mod laws;
 mod layout;
-#[cfg(test)]
-mod list_tests;
 mod nssai;
 mod numbers;
 mod other;
@@ -23,8 +20,6 @@ mod slice;
 mod status;
 mod suci;
 mod tai_list;
-#[cfg(test)]
-mod tests;
 mod timer3;
 mod wrong;
 
@@ -36,12 +31,6 @@ pub use crate::capability::Capability;
 pub use crate::dnn::Dnn;
 pub use crate::guti::{Guti, Stmsi};
 pub use crate::identity::{Identity, IdentityRefusal};
-pub use crate::laws::{
-    address_is_read_back, algs_are_read_back, ambr_is_read_back, asi_is_read_back,
-    capability_is_read_back, dnn_is_read_back, guti_is_read_back, identity_is_read_back,
-    nssai_is_read_back, slice_is_read_back, status_is_read_back, stmsi_is_read_back,
-    suci_is_read_back, tai_list_is_read_back, timer3_is_read_back,
-};
 pub use crate::nssai::Nssai;
 pub use crate::numbers::in_two_octets;
 pub use crate::other::OtherIdentity;

@@ -13,7 +13,7 @@ use std::marker::Model;
 const MOST: usize = 8;
 
 /// 1 to 8 slices, in order (NSSAI, TS 24.501 clause 9.11.3.37).
-#[derive(Debug, Drop, PartialEq, Eq)]
+#[derive(Drop)]
 pub struct Nssai {
     pub items: ArrayVec<Slice, 8>,
 }
@@ -111,8 +111,8 @@ impl Nssai {
         Nssai::from_slice(self.as_slice()).unwrap()
     }
 
-    // What is written of it.
-    fn octets(&self) -> ArrayVec<u8, 40>
+    /// Its octets: 2 to 40.
+    pub fn octets(&self) -> ArrayVec<u8, 40>
         ensures { result.items ≡ nssai_octets self.now }
     {
         let mut octets = ArrayVec::new();

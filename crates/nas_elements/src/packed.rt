@@ -1,7 +1,6 @@
 //! Decimal digits in octets, two in each, the first in the low half.
 ghost use Rattle.std.specs.Prelude.{◌≡◌, ◌+◌, ◌*◌, ◌<◌, ◌≤◌, length};
-ghost use Rattle.nas_base.specs.Digits.{digits_between};
-ghost use Rattle.nas_elements.specs.Packed.{halves_of, packed, plmn_in, plmn_octets, third_digit, two_halves, unfilled};
+ghost use Rattle.nas_elements.specs.Packed.{halves_of, packed, plmn_in, plmn_octets, two_halves, unfilled};
 
 use arrayvec::ArrayVec;
 use nas_base::{Digits, Plmn};

@@ -11,7 +11,7 @@ use nas_base::{Full, Writer};
 const MOST: usize = 8;
 
 /// A slice (S-NSSAI): its type, SST, and what tells slices of one type apart, SD (TS 24.501 clause 9.11.2.8).
-#[derive(Clone, Copy, Debug, Default, PartialEq, Eq)]
+#[derive(Clone, Copy, Default, PartialEq, Eq)]
 pub struct Slice {
     pub sst: u8,
     pub sd: Option<[u8; 3]>,
@@ -74,8 +74,8 @@ impl Slice {
         *self
     }
 
-    // What is written of it.
-    pub(crate) fn octets(&self) -> ArrayVec<u8, 4>
+    /// Its octets: 1 or 4.
+    pub fn octets(&self) -> ArrayVec<u8, 4>
         ensures value { result.items ≡ slice_octets self.now }
         ensures limit { length result.items ≤ 4 }
     {

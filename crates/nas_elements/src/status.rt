@@ -1,5 +1,5 @@
 //! A set of PDU sessions.
-ghost use Rattle.std.specs.Prelude.{◌≡◌, ◌≤◌, ◌<◌, ◌&&◌, length};
+ghost use Rattle.std.specs.Prelude.{◌≡◌, ◌≤◌, ◌<◌, length};
 ghost use Rattle.nas_base.specs.Writing.{Writes};
 ghost use Rattle.nas_elements.specs.Reads.{Reads};
 ghost use Rattle.nas_elements.specs.Status.{bits, both, has, no_session, number, status_in, status_octets, with_session, without_session};
@@ -9,7 +9,7 @@ use nas_base::{Full, Psi, Writer};
 use std::marker::Model;
 
 /// The PDU session status: a set of PDU session identities (TS 24.501 clause 9.11.3.44).
-#[derive(Clone, Copy, Debug, PartialEq, Eq)]
+#[derive(Clone, Copy, PartialEq, Eq)]
 pub struct Status {
     held: [bool; 15],
 }
@@ -58,9 +58,9 @@ impl Status {
         out.put(&self.octets())
     }
 
-    // Its two octets.
+    /// Its two octets.
     #[tactic(auto, using(crate::proofs::StatusLemmas::seven_bits))]
-    fn octets(&self) -> [u8; 2]
+    pub fn octets(&self) -> [u8; 2]
         ensures { result ≡ status_octets self.now }
     {
         let (first, second) = self.held.split_at(7);
@@ -82,13 +82,12 @@ impl Status {
     }
 
     /// The sessions that are in both sets.
-    #[tactic(auto, using(crate::proofs::StatusLemmas::both_step))]
     pub fn both(&self, other: &Status) -> Status
         ensures { result ≡ both self.now other.now }
     {
         let mut held = [false; 15];
         for (index, place) in held.iter_mut().enumerate() {
-            *place = both_hold(self.held[index], other.held[index]);
+            *place = self.held[index] & other.held[index];
         }
         Status { held }
     }
@@ -106,13 +105,6 @@ impl Status {
     {
         self.held[usize::from(psi.0) - 1] = false;
     }
-}
-
-// Whether both sets hold a session.
-fn both_hold(one: bool, other: bool) -> bool
-    ensures { result ≡ one && other }
-{
-    one && other
 }
 
 // Fills the places with the lowest bits of the octet, from bit 1 on.

@@ -7,14 +7,14 @@ ghost use Rattle.nas_elements.specs.Suci.{is_null_scheme, msin_in, parts, routin
 
 use crate::Wrong;
 use crate::layout::{Line, met_by};
-use crate::packed::{FILLER, halves, pack, plmn_of, plmn_to, two_halves, without_filler};
+use crate::packed::{halves, pack, plmn_of, plmn_to, without_filler};
 use arrayvec::ArrayVec;
 use nas_base::{Digits, Full, Plmn, Writer};
 use std::marker::Model;
 
 /// The SUCI of an IMSI under the null scheme: the network, a routing indicator of 1 to 4 digits, and an MSIN of 1 to 10
 /// (TS 23.003 clause 2.2B).
-#[derive(Debug, Drop, PartialEq, Eq)]
+#[derive(Drop)]
 pub struct Suci {
     pub plmn: Plmn,
     pub routing: Digits,
@@ -43,7 +43,6 @@ impl Suci {
     /// # Errors
     ///
     /// `Wrong` exactly where no SUCI of an IMSI under the null scheme has these octets.
-    #[tactic(auto, using(crate::proofs::SuciFronts::wrong_suci))]
     pub fn read(octets: &[u8]) -> Result<Suci, Wrong>
         ensures { Reads suci_in octets.now result }
     {
@@ -74,17 +73,16 @@ impl Suci {
         self.octets().len()
     }
 
-    // Its octets.
-    fn octets(&self) -> ArrayVec<u8, 13>
+    /// Its octets: 9 to 13.
+    pub fn octets(&self) -> ArrayVec<u8, 13>
         ensures { result.items ≡ suci_octets self.now }
     {
+        let [a, b, c] = plmn_to(&self.plmn);
+        let [d, e] = routing_to(&self.routing);
         let mut octets = ArrayVec::new();
-        octets.push(IMSI_SUCI);
-        octets.try_extend_from_slice(&plmn_to(&self.plmn)).unwrap();
         octets
-            .try_extend_from_slice(&routing_to(&self.routing))
+            .try_extend_from_slice(&[IMSI_SUCI, a, b, c, d, e, 0, 0])
             .unwrap();
-        octets.try_extend_from_slice(&[0, 0]).unwrap();
         octets
             .try_extend_from_slice(pack(&self.msin).as_slice())
             .unwrap();
@@ -150,16 +148,16 @@ fn has_null_scheme(octets: &[u8]) -> bool
 }
 
 // The two octets of a routing indicator, with fillers behind its digits.
+#[tactic(auto, using(crate::proofs::PackedLaws::packed_some))]
 fn routing_to(routing: &Digits) -> [u8; 2]
     requires { length routing.now ≤ 4 }
     ensures { result ≡ routing_octets routing.now }
 {
-    match routing.as_slice() {
-        [a] => [two_halves(*a, FILLER), 0xff],
-        [a, b] => [two_halves(*a, *b), 0xff],
-        [a, b, c] => [two_halves(*a, *b), two_halves(*c, FILLER)],
-        [a, b, c, d] => [two_halves(*a, *b), two_halves(*c, *d)],
-        _ => unreachable!(),
+    let _ = &routing.items;
+    match pack(routing).as_slice() {
+        [first] => [*first, 0xff],
+        [first, second, ..] => [*first, *second],
+        [] => unreachable!(),
     }
 }
 

@@ -15,7 +15,7 @@ const LEAST: usize = 7;
 const MOST: usize = 112;
 
 /// The tracking area identity list, 7 to 112 octets, which are kept and not interpreted (TS 24.501 clause 9.11.3.9).
-#[derive(Debug, Drop, PartialEq, Eq)]
+#[derive(Drop)]
 pub struct TaiList {
     pub items: ArrayVec<u8, 112>,
 }

@@ -1,4 +1,5 @@
 //! Durations that are told to a handset.
+ghost use Rattle.std.specs.Prelude.{◌≡◌};
 ghost use Rattle.nas_base.specs.Writing.{Writes};
 ghost use Rattle.nas_elements.specs.Reads.{Reads};
 ghost use Rattle.nas_elements.specs.Timer3.{timer3_in, timer3_octets};
@@ -9,7 +10,7 @@ use std::marker::Model;
 
 /// A GPRS timer 3: a `value` of 0 to 31 in a `unit` of 0 to 7. Units 3, 4 and 5 are 2 s, 30 s and 1 min, unit 0 is 10 min,
 /// 1, 2 and 6 are 1 h, 10 h and 320 h, and unit 7 says that the timer doesn't run (TS 24.008 clause 10.5.7.4a).
-#[derive(Clone, Copy, Debug, PartialEq, Eq)]
+#[derive(Clone, Copy)]
 pub struct Timer3 {
     pub unit: u8,
     pub value: u8,
@@ -57,6 +58,13 @@ impl Timer3 {
     pub fn write(&self, out: &mut Writer) -> Result<(), Full>
         ensures { Writes (timer3_octets self.now) out.old out.new result }
     {
-        out.put(&[32 * self.unit + self.value])
+        out.put(&self.octets())
+    }
+
+    /// Its octet.
+    pub fn octets(&self) -> [u8; 1]
+        ensures { result ≡ timer3_octets self.now }
+    {
+        [32 * self.unit + self.value]
     }
 }

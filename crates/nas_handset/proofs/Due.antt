@@ -2,6 +2,7 @@
 use Rattle.std.proofs.Common.{◌≡◌, ℕ, zero, suc, ◌+◌, ◌-◌, ◌<◌, List, [], ◌∷◌, ◌++◌, Some, None, refl, arith}
 use Rattle.std.proofs.lemmas.Grind.{common_steps}
 use Rattle.nas_base.specs.Branches.{per}
+use Rattle.nas_timers.specs.declared.timer_id.TheConstants.{NAMES}
 use Rattle.nas_timers.specs.Timers.{Running, due_of, stopped}
 use Rattle.nas_timers.specs.declared.timer_id.TimerId.{TimerId}
 use Rattle.nas_handset.specs.Ticks.{due_within}
@@ -17,11 +18,11 @@ unfolding per due_within
 some_within n now ts id some = rw some refl
 
 -- where the found ones are put before the others, one more is found
-pub due_found : (c now : ℕ) (ts : List Running) (id : TimerId) (list whole : List TimerId) → c < 96 → due_of now ts ≡ Some id →
-    list ++ due_within (96 - c) now ts ≡ whole → (list ++ id ∷ []) ++ due_within (96 - (c + 1)) now (stopped id ts) ≡ whole
+pub due_found : (c now : ℕ) (ts : List Running) (id : TimerId) (list whole : List TimerId) → c < NAMES → due_of now ts ≡ Some id →
+    list ++ due_within (NAMES - c) now ts ≡ whole → (list ++ id ∷ []) ++ due_within (NAMES - (c + 1)) now (stopped id ts) ≡ whole
 due_found c now ts id list whole within some all =
-    let one : 96 - c ≡ suc (96 - (c + 1)) = omega arith in
-    let next : due_within (96 - c) now ts ≡ id ∷ due_within (96 - (c + 1)) now (stopped id ts) = rw one (some_within (96 - (c + 1)) now ts id some) in
+    let one : NAMES - c ≡ suc (NAMES - (c + 1)) = omega arith in
+    let next : due_within (NAMES - c) now ts ≡ id ∷ due_within (NAMES - (c + 1)) now (stopped id ts) = rw one (some_within (NAMES - (c + 1)) now ts id some) in
     grind (arith, common_steps)
 
 pub due_ended : (n now : ℕ) (ts : List Running) (list whole : List TimerId) → due_of now ts ≡ None →

@@ -2,6 +2,7 @@
 use Rattle.std.specs.Prelude.{ℕ, zero, suc, Bool, false, nat_le, max, List, [], ◌∷◌}
 use Rattle.nas_base.specs.Branches.{per, when◌then◌else◌}
 use Rattle.nas_timers.specs.Timers.{Running, deadline_of, due_of, stopped}
+use Rattle.nas_timers.specs.declared.timer_id.TheConstants.{NAMES}
 use Rattle.nas_timers.specs.declared.timer_id.TimerId.{TimerId}
 use Rattle.ue_mm.specs.declared.inputs.UeInput.TheVariants.{Expired}
 use Rattle.nas_handset.specs.State.{HandsetState}
@@ -13,11 +14,8 @@ unfoldable pub due_within : ℕ → ℕ → List Running → List TimerId
 due_within zero now ts = []
 due_within (suc n) now ts = per (due_of now ts) [] (λ (id : TimerId). id ∷ due_within n now (stopped id ts))
 
-abbrev pub names : ℕ
-names = 96
-
 abbrev pub due_list : ℕ → List Running → List TimerId
-due_list now ts = due_within names now ts
+due_list now ts = due_within NAMES now ts
 
 -- One of them: where its deadline is still there and has come, it is stopped, and the step of its expiry is taken. An expiry
 -- before it may have stopped it, or started it anew.

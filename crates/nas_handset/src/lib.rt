@@ -3,8 +3,6 @@
 
 mod command;
 mod handset;
-#[cfg(test)]
-mod tests;
 mod ticks;
 mod turn;
 

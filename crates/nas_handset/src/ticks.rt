@@ -4,12 +4,9 @@ ghost use Rattle.nas_handset.specs.Ticks.{all_fired, due_list, fired, is_due};
 
 use crate::turn::Turn;
 use nas_base::{Memory, Moment};
-use nas_timers::{TimerId, Timers};
+use nas_timers::{NAMES, TimerId, Timers};
 use std::alloc::Global;
 use ue_mm::UeInput;
-
-// How many names there may be.
-const NAMES: usize = 96;
 
 /// The timers that are due at a moment, by deadline and then by name.
 #[tactic(auto, using(crate::proofs::Due::due_found, crate::proofs::Due::due_ended, crate::proofs::Due::due_all))]

@@ -1,9 +1,12 @@
 pub mod AbbaLaws
+pub mod BackLaws
 pub mod ElementLaws
 pub mod FirstElementsLaws
 pub mod HalvesBack
 pub mod OctetRanges
-pub mod PieceLaws
+pub mod Rooms
 pub mod SpellsLaws
+pub mod TellingLaws
 pub mod ValuesBack
 pub mod WalkedWhole
+pub mod WrittenLaws

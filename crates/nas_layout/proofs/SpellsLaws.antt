@@ -1,4 +1,4 @@
--- Octets spell a message of a layout exactly where that message stands in them.
+-- Octets spell a message of a table exactly where that message stands in them.
 use Rattle.std.proofs.Common.{◌≡◌, ◌∙◌, ℕ, suc, ◌+◌, ◌*◌, ◌^◌, ◌<◌, ◌≤◌, ◌/◌, ◌%◌, nat_lt, Bool, true, false, cond, List, [], ◌∷◌, ◌++◌, length, take, drop, Option, Some, None, Result, Ok, Err, append_assoc, arith, refl, ap, subst, sym}
 use Rattle.std.proofs.lemmas.Bool.Decides.{nat_tests}
 use Rattle.std.proofs.lemmas.Grind.{common_steps}
@@ -9,7 +9,10 @@ use Rattle.byteorder.specs.Endian.{big_bytes, big_number}
 use Rattle.nas_base.specs.Reading.{Place, Reads, behind_length, lv_at, lve_at, needing, octets_at, past}
 use Rattle.nas_base.specs.Walking.{elements_in, firsts}
 use Rattle.nas_layout.specs.Laws.{AreOctets, SpelledIsLaid}
-use Rattle.nas_layout.specs.Layout.{◌>>=◌, Fits, Layout, Spells, cut_at, elements, framed, laid, part, uncut, valued}
+use Rattle.nas_layout.specs.Coding.{Coding}
+use Rattle.nas_layout.specs.Pieces.{framed}
+use Rattle.nas_layout.specs.Spelling.{Fits, Spells}
+use Rattle.nas_layout.specs.Table.{◌>>=◌, Table, cut_at, elements, gathered, laid, part, rows, uncut, valued}
 use Rattle.nas_layout.specs.declared.body.BodyRefusal.{BodyRefusal}
 use Rattle.nas_layout.specs.declared.frame.Frame.{Frame}
 use Rattle.nas_layout.specs.declared.frame.Frame.TheVariants.{V, Lv, Lve}
@@ -76,18 +79,18 @@ cut_framed Lve p piece rest fits is =
       left = left_counted 2 (length piece) p (big_bytes 2 (length piece)) piece rest refl refl is;
     }
 
-spells_part : {A P : Type 0} (frame : Frame) (reading : List ℕ → Option P) (next : P → Layout A) (n : ℕ) (p : Place) (message : A)
-    → ((x : P) (q : Place) → Spells (next x) q.left message → laid (next x) (suc n) q ≡ Ok message)
-    → Spells (part frame reading next) p.left message → laid (part frame reading next) n p ≡ Ok message
-spells_part frame reading next n p message later s =
+spells_part : {A P : Type 0} (frame : Frame) (coding : Coding P) (from : A → P) (next : P → Table A) (n : ℕ) (p : Place) (m : A)
+    → ((x : P) (q : Place) → Spells (next x) q.left m → laid (next x) (suc n) q ≡ Ok m)
+    → Spells (part frame coding from next) p.left m → laid (part frame coding from next) n p ≡ Ok m
+spells_part frame coding from next n p m later s =
     let c = cut_framed frame p s.piece s.rest s.fits s.whole in
-    let behind : Spells (next s.value) c.place.left message = rw c.left s.behind in
+    let behind : Spells (next s.value) c.place.left m = rw c.left s.behind in
     rw (c.is, s.means) (later s.value c.place behind)
 
 -- What octets spell stands in them.
-pub spelled_laid : {A : Type 0} (l : Layout A) (n : ℕ) (p : Place) (message : A) → Spells l p.left message → laid l n p ≡ Ok message
-spelled_laid (part frame reading next) n p message s = spells_part frame reading next n p message (λ x q. spelled_laid (next x) (suc n) q message) s
-spelled_laid (elements shape made) n p message s = ap (λ m. Ok m) (sym s)
+pub spelled_laid : {A : Type 0} (t : Table A) (n : ℕ) (p : Place) (m : A) → Spells t p.left m → laid t n p ≡ Ok m
+spelled_laid (part frame coding from next) n p m s = spells_part frame coding from next n p m (λ x q. spelled_laid (next x) (suc n) q m) s
+spelled_laid (elements es) n p m s = ap (λ x. Ok x) (sym s)
 
 -- what was cut off stood in its frame
 unneeded : {A : Type 0} (n : ℕ) (p : Place) (read : Reads A) (c : A × Place) → needing n p read ≡ Ok c → (n ≤ length p.left) × (read ≡ Ok c)
@@ -186,15 +189,15 @@ behind_octets octets front rest is h =
     let same : drop (length front) octets ≡ rest = ap (drop (length front)) is ∙ drop_front (length front) front rest refl in
     subst AreOctets same (All-drop (λ (octet : ℕ). octet < 256) (length front) octets h)
 
-laid_part : {A P : Type 0} (frame : Frame) (reading : List ℕ → Option P) (next : P → Layout A) (n : ℕ) (p : Place) (message : A) → AreOctets p.left
-    → ((x : P) (q : Place) → AreOctets q.left → laid (next x) (suc n) q ≡ Ok message → Spells (next x) q.left message)
-    → laid (part frame reading next) n p ≡ Ok message → Spells (part frame reading next) p.left message
-laid_part {A} {P} frame reading next n p message octets later h = of_cut (cut_at frame p) refl h where
+laid_part : {A P : Type 0} (frame : Frame) (coding : Coding P) (from : A → P) (next : P → Table A) (n : ℕ) (p : Place) (m : A) → AreOctets p.left
+    → ((x : P) (q : Place) → AreOctets q.left → laid (next x) (suc n) q ≡ Ok m → Spells (next x) q.left m)
+    → laid (part frame coding from next) n p ≡ Ok m → Spells (part frame coding from next) p.left m
+laid_part {A} {P} frame coding from next n p m octets later h = of_cut (cut_at frame p) refl h where
   then_laid : P × Place → Result A BodyRefusal
   then_laid x = laid (next x.0) (suc n) x.1
 
-  of_value : (piece : List ℕ) (place : Place) → cut_at frame p ≡ Ok (piece, place) → (x : Option P) → reading piece ≡ x
-      → ((valued n p.at x >>= (λ v. Ok (v, place))) >>= then_laid) ≡ Ok message → Spells (part frame reading next) p.left message
+  of_value : (piece : List ℕ) (place : Place) → cut_at frame p ≡ Ok (piece, place) → (x : Option P) → coding.reading piece ≡ x
+      → ((valued n p.at x >>= (λ v. Ok (v, place))) >>= then_laid) ≡ Ok m → Spells (part frame coding from next) p.left m
   of_value piece place is None none h = cc
   of_value piece place is (Some x) some h =
       let f = framed_cut frame p piece place octets is in
@@ -209,18 +212,18 @@ laid_part {A} {P} frame reading next n p message octets later h = of_cut (cut_at
       }
 
   of_cut : (c : Reads (List ℕ)) → cut_at frame p ≡ c
-      → ((uncut n p.at c >>= (λ o. valued n p.at (reading o.0) >>= (λ v. Ok (v, o.1)))) >>= then_laid) ≡ Ok message
-      → Spells (part frame reading next) p.left message
+      → ((uncut n p.at c >>= (λ o. valued n p.at (coding.reading o.0) >>= (λ v. Ok (v, o.1)))) >>= then_laid) ≡ Ok m
+      → Spells (part frame coding from next) p.left m
   of_cut (Err short) is h = cc
-  of_cut (Ok c) is h = of_value c.0 c.1 is (reading c.0) refl h
+  of_cut (Ok c) is h = of_value c.0 c.1 is (coding.reading c.0) refl h
 
 -- What stands in octets is spelled by them.
-pub laid_spelled : {A : Type 0} (l : Layout A) (n : ℕ) (p : Place) (message : A) → AreOctets p.left → laid l n p ≡ Ok message → Spells l p.left message
-laid_spelled (part frame reading next) n p message octets h =
-    laid_part frame reading next n p message octets (λ x q o. laid_spelled (next x) (suc n) q message o) h
-laid_spelled (elements shape made) n p message octets h =
-    let same : made (firsts shape (elements_in shape p.left)) ≡ message = cc in
+pub laid_spelled : {A : Type 0} (t : Table A) (n : ℕ) (p : Place) (m : A) → AreOctets p.left → laid t n p ≡ Ok m → Spells t p.left m
+laid_spelled (part frame coding from next) n p m octets h =
+    laid_part frame coding from next n p m octets (λ x q o. laid_spelled (next x) (suc n) q m o) h
+laid_spelled (elements es) n p m octets h =
+    let same : gathered (firsts (rows es) (elements_in (rows es) p.left)) es ≡ m = cc in
     sym same
 
-pub spelled_is_laid : {A : Type 0} (l : Layout A) → SpelledIsLaid l
-spelled_is_laid l = record { is_laid = spelled_laid l; is_spelled = laid_spelled l }
+pub spelled_is_laid : {A : Type 0} (t : Table A) → SpelledIsLaid t
+spelled_is_laid t = record { is_laid = spelled_laid t; is_spelled = laid_spelled t }

@@ -1,9 +1,10 @@
--- What may stand behind a layout's elements and changes nothing: further elements of identifiers that stand there already (TS
--- 24.007 clause 11.2.4).
-use Rattle.std.specs.Prelude.{◌≡◌, ℕ, zero, suc, ◌==◌, Bool, List, length, Option, Some, None, is_some}
+-- What may stand behind a message's elements and changes nothing: further elements of identifiers that stand there already, and of
+-- identifiers that the message's table doesn't know (TS 24.007 clause 11.2.4).
+use Rattle.std.specs.Prelude.{◌≡◌, ℕ, zero, suc, ◌==◌, ◌||◌, Bool, List, length, Option, Some, None, is_none, is_some}
 use Rattle.std.specs.List.{list_all}
-use Rattle.nas_base.specs.Walking.{Element, Head, RowParts, head_of, value_of}
-use Rattle.nas_layout.specs.Layout.{Layout, PartSpells, elements, part}
+use Rattle.nas_base.specs.Walking.{Element, Head, RowParts, form_of, head_of, value_of}
+use Rattle.nas_layout.specs.Spelling.{PartSpells}
+use Rattle.nas_layout.specs.Table.{Table, elements, part, rows}
 
 -- a walk comes to the end of the octets: no element is cut
 abbrev pub ends_after : (List ℕ → Bool) → List ℕ → Option Head → Bool
@@ -17,11 +18,11 @@ ends_within (suc n) shape octets = ends_after (ends_within n shape) octets (head
 abbrev pub is_walked_whole : List RowParts → List ℕ → Bool
 is_walked_whole shape octets = ends_within (length octets) shape octets
 
--- each has the identifier of one before
-abbrev pub are_repeated : List Element → List Element → Bool
-are_repeated before es = list_all (λ (e : Element). is_some (value_of e.iei before)) es
+-- each has the identifier of one before, or one that no row has
+abbrev pub count_nothing : List RowParts → List Element → List Element → Bool
+count_nothing shape before es = list_all (λ (e : Element). is_some (value_of e.iei before) || is_none (form_of shape e.iei)) es
 
--- octets are a layout's parts one after the other, each in its frame, and then a tail of elements in a shape
-abbrev pub PartsThen : {A : Type 0} → Layout A → List RowParts → List ℕ → List ℕ → Type 0
-PartsThen (part frame reading next) shape tail octets = PartSpells frame reading (λ x rest. PartsThen (next x) shape tail rest) octets
-PartsThen (elements rows made) shape tail octets = (shape ≡ rows) × (tail ≡ octets)
+-- octets are a table's parts one after the other, each in its frame, and then a tail of elements in a shape
+abbrev pub PartsThen : {A : Type 0} → Table A → List RowParts → List ℕ → List ℕ → Type 0
+PartsThen (part frame coding from next) shape tail octets = PartSpells frame coding.reading (λ x rest. PartsThen (next x) shape tail rest) octets
+PartsThen (elements es) shape tail octets = (shape ≡ rows es) × (tail ≡ octets)

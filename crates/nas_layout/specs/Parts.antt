@@ -15,6 +15,10 @@ low_half octet = octet % 16
 abbrev pub high_half : ℕ → ℕ
 high_half octet = octet / 16
 
+-- ngKSI in an octet: bits 1 to 3
+abbrev pub ksi_in : List ℕ → Option ℕ
+ksi_in octets = Some (slice_index octets 0 % 8)
+
 -- any octets, up to as many as are kept
 abbrev pub container_in : List ℕ → Option (List ℕ)
 container_in octets = if nat_le (length octets) 4100 then Some octets else None

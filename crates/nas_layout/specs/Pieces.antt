@@ -1,105 +1,65 @@
--- Elements that are written one behind the other.
-use Rattle.std.specs.Prelude.{◌≡◌, ◌<◌, ℕ, ◌+◌, ◌/◌, ◌^◌, ◌==◌, Bool, true, false, not, ◌&&◌, ◌||◌, List, [], ◌∷◌, ◌++◌, length, Option, Some, None, IfSome, option_map, if◌then◌else◌}
-use Rattle.std.specs.List.{list_all, list_any}
+-- The pieces that a message is written as, one behind the other: its mandatory parts, and the elements that it may have (TS 24.007
+-- clauses 11.2.1.1 and 11.2.4).
+use Rattle.std.specs.Prelude.{ℕ, ◌+◌, ◌%◌, Bool, nat_le, List, [], ◌∷◌, ◌++◌, slice_index, Option, Some, None}
+use Rattle.nas_base.specs.Writing.{lv, lve}
 use Rattle.nas_base.specs.declared.shape.Form.{Form}
 use Rattle.nas_base.specs.declared.shape.Form.TheVariants.{Half, Fixed, Tlv, Tlve}
-use Rattle.nas_base.specs.Walking.{RowParts, form_of, high_of, is_half, is_row}
-use Rattle.nas_base.specs.Writing.{optional_tlv}
-use Rattle.nas_layout.specs.Writing.{optional_half, optional_tlve, optional_tv}
+use Rattle.nas_layout.specs.declared.frame.Frame.{Frame}
+use Rattle.nas_layout.specs.declared.frame.Frame.TheVariants.{V, Lv, Lve}
 
--- An element as it is written: a value that may be absent, in the form of its identifier. Of a fixed form the number of the
--- value's octets is told.
+-- an element as it is written: its identifier, its form, and its value where it is there
+pub record WrittenElement : Type 0 where
+  pub iei : ℕ
+  pub form : Form
+  pub value : Option (List ℕ)
+
+-- a part in its frame, or an element
 pub data Piece : Type 0 where
-  short : ℕ → Option (List ℕ) → Piece
-  long : ℕ → Option (List ℕ) → Piece
-  fixed : ℕ → ℕ → Option (List ℕ) → Piece
-  half : ℕ → Option ℕ → Piece
+  mandatory : Frame → List ℕ → Piece
+  optional : WrittenElement → Piece
 
-abbrev pub piece_iei : Piece → ℕ
-piece_iei (short iei value) = iei
-piece_iei (long iei value) = iei
-piece_iei (fixed iei n value) = iei
-piece_iei (half iei value) = iei
+-- octets in a frame
+abbrev pub framed : Frame → List ℕ → List ℕ
+framed (V n) octets = octets
+framed Lv octets = lv octets
+framed Lve octets = lve octets
 
--- the octet of an element of one octet
-abbrev pub half_value : ℕ → Option ℕ → Option (List ℕ)
-half_value iei value = option_map (λ half. (iei + half) ∷ []) value
+-- so many octets may be in a frame
+abbrev pub is_room_in : Frame → ℕ → Bool
+is_room_in (V n) size = nat_le size 4100
+is_room_in Lv size = nat_le size 255
+is_room_in Lve size = nat_le size 4100
 
--- its octets, and the value that a walk finds
+-- an element: its identifier with the value's low half in its own; its identifier and the value; and so with a length between them, of
+-- one octet or of two
+abbrev pub formed : ℕ → Form → List ℕ → List ℕ
+formed iei Half octets = (iei + slice_index octets 0 % 16) ∷ []
+formed iei (Fixed n) octets = iei ∷ octets
+formed iei Tlv octets = iei ∷ lv octets
+formed iei Tlve octets = iei ∷ lve octets
+
+-- so many octets may be under an identifier
+abbrev pub is_room_under : ℕ → Form → ℕ → Bool
+is_room_under iei Half size = nat_le iei 240
+is_room_under iei (Fixed n) size = nat_le size 4100
+is_room_under iei Tlv size = nat_le size 255
+is_room_under iei Tlve size = nat_le size 4100
+
+abbrev pub formed_if_there : ℕ → Form → Option (List ℕ) → List ℕ
+formed_if_there iei form None = []
+formed_if_there iei form (Some octets) = formed iei form octets
+
+abbrev pub element_octets : WrittenElement → List ℕ
+element_octets w = formed_if_there w.iei w.form w.value
+
+-- the octets of a piece, and of pieces one behind the other
 abbrev pub piece_octets : Piece → List ℕ
-piece_octets (short iei value) = optional_tlv iei value
-piece_octets (long iei value) = optional_tlve iei value
-piece_octets (fixed iei n value) = optional_tv iei value
-piece_octets (half iei value) = optional_half iei value
+piece_octets (mandatory frame octets) = framed frame octets
+piece_octets (optional w) = element_octets w
 
-abbrev pub piece_value : Piece → Option (List ℕ)
-piece_value (short iei value) = value
-piece_value (long iei value) = value
-piece_value (fixed iei n value) = value
-piece_value (half iei value) = half_value iei value
+abbrev pub joined : {A : Type 0} → (A → List ℕ) → List A → List ℕ
+joined octets_of [] = []
+joined octets_of (x ∷ xs) = octets_of x ++ joined octets_of xs
 
--- no other row has an identifier with the same high half
-abbrev pub is_alone : List RowParts → ℕ → Bool
-is_alone shape iei = list_all (λ (row : RowParts). row.iei == iei || not (row.iei / 16 == iei / 16)) shape
-
--- the form of a row: a length of one octet; of two; none, and n octets behind the identifier
-abbrev pub is_tlv : Option Form → Bool
-is_tlv None = false
-is_tlv (Some Half) = false
-is_tlv (Some (Fixed n)) = false
-is_tlv (Some Tlv) = true
-is_tlv (Some Tlve) = false
-
-abbrev pub is_tlve : Option Form → Bool
-is_tlve None = false
-is_tlve (Some Half) = false
-is_tlve (Some (Fixed n)) = false
-is_tlve (Some Tlv) = false
-is_tlve (Some Tlve) = true
-
-abbrev pub is_fixed : ℕ → Option Form → Bool
-is_fixed n None = false
-is_fixed n (Some Half) = false
-is_fixed n (Some (Fixed m)) = m == n + 1
-is_fixed n (Some Tlv) = false
-is_fixed n (Some Tlve) = false
-
--- the element has the form of its row, and the octet of a half could be no other row's identifier
-abbrev pub is_piece_of : List RowParts → Piece → Bool
-is_piece_of shape (short iei value) = is_tlv (form_of shape iei)
-is_piece_of shape (long iei value) = is_tlve (form_of shape iei)
-is_piece_of shape (fixed iei n value) = is_fixed n (form_of shape iei)
-is_piece_of shape (half iei value) = is_half (form_of shape iei) && is_alone shape iei && high_of iei == iei
-
--- how long its value may be; a length of one octet is a number here, and has no limit
-abbrev pub FitsPiece : Piece → Type 0
-FitsPiece (short iei value) = Unit {0}
-FitsPiece (long iei value) = IfSome value (λ octets. length octets < 2 ^ 16)
-FitsPiece (fixed iei n value) = IfSome value (λ octets. length octets ≡ n)
-FitsPiece (half iei value) = IfSome value (λ half. half < 16)
-
--- elements written one behind the other
 abbrev pub pieces_octets : List Piece → List ℕ
-pieces_octets [] = []
-pieces_octets (piece ∷ []) = piece_octets piece
-pieces_octets (piece ∷ next ∷ pieces) = piece_octets piece ++ pieces_octets (next ∷ pieces)
-
-abbrev pub FitPieces : List Piece → Type 0
-FitPieces [] = Unit {0}
-FitPieces (piece ∷ pieces) = FitsPiece piece × FitPieces pieces
-
--- the value of the first with an identifier
-abbrev pub piece_of : ℕ → List Piece → Option (List ℕ)
-piece_of iei [] = None
-piece_of iei (piece ∷ pieces) = if iei == piece_iei piece then piece_value piece else piece_of iei pieces
-
-abbrev pub has_piece : ℕ → List Piece → Bool
-has_piece iei pieces = list_any (λ piece. iei == piece_iei piece) pieces
-
-abbrev pub are_distinct : List Piece → Bool
-are_distinct [] = true
-are_distinct (piece ∷ pieces) = not (has_piece (piece_iei piece) pieces) && are_distinct pieces
-
--- elements of a shape, each of its row's form, and no two of one identifier
-abbrev pub are_legible : List RowParts → List Piece → Bool
-are_legible shape pieces = list_all (λ (row : RowParts). is_row row.iei row.form) shape && (list_all (is_piece_of shape) pieces && are_distinct pieces)
+pieces_octets pieces = joined piece_octets pieces

@@ -3,9 +3,8 @@ ghost use Rattle.std.specs.Prelude.{◌≡◌, ◌≤◌, length};
 ghost use Rattle.nas_elements.specs.Reads.{Reads};
 ghost use Rattle.nas_layout.specs.Abba.{abba_in};
 
-use crate::{Counted, Written};
+use crate::{Coded, Readable, Spelled};
 use arrayvec::ArrayVec;
-use nas_base::{Full, Writer};
 use nas_elements::Wrong;
 use std::marker::Model;
 
@@ -79,20 +78,24 @@ impl Abba {
     }
 }
 
-impl Written for Abba {
-    ghost octets = { λ octets. octets };
+impl Coded for Abba {
+    ghost use Rattle.nas_layout.specs.Codings.{abba};
 
-    fn size(&self) -> usize {
-        self.as_slice().len()
-    }
+    ghost coding = { abba };
 
-    fn write_to(&self, out: &mut Writer) -> Result<(), Full> {
-        out.put(self.as_slice())
+    ghost most = { 255 };
+
+    fn octets(&self) -> Spelled<'_> {
+        Spelled::Kept(self.as_slice())
     }
 }
 
-impl Counted for Abba {
-    fn count(&self) -> u8 {
-        self.as_slice().len() as u8
+impl Readable for Abba {
+    fn read_from(octets: &[u8]) -> Option<Abba> {
+        Abba::from_slice(octets)
+    }
+
+    fn is_read_back(&self) {
+        let _items = &self.items;
     }
 }

@@ -1,6 +1,6 @@
-//! Reading what stands behind the head of a message.
-ghost use Rattle.std.specs.Prelude.{◌≡◌};
-ghost use Rattle.nas_layout.specs.Layout.{Cuts, as_it_is, named, part_at};
+//! Cutting off the parts of a message's body.
+ghost use Rattle.nas_layout.specs.Answers.{Cuts, as_it_is};
+ghost use Rattle.nas_layout.specs.Table.{part_at};
 
 use crate::Frame;
 use nas_base::Reader;
@@ -31,20 +31,6 @@ pub fn cut<'a>(part: u8, frame: Frame, reader: &mut Reader<'a>) -> Result<&'a [u
     };
     match octets {
         Ok(octets) => Ok(octets),
-        Err(_) => Err(BodyRefusal::Mandatory { part, at }),
-    }
-}
-
-/// The value of a part that began at this place, where it has one.
-///
-/// # Errors
-///
-/// `Mandatory` where it has none.
-pub fn value<X, W: Drop>(part: u8, at: usize, read: Result<X, W>) -> Result<X, BodyRefusal>
-    ensures { result ≡ named part at read }
-{
-    match read {
-        Ok(value) => Ok(value),
         Err(_) => Err(BodyRefusal::Mandatory { part, at }),
     }
 }

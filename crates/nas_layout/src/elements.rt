@@ -1,235 +1,293 @@
-//! What the values of nas_elements are written as.
+//! The information elements as parts and elements of messages.
 
-use crate::{Counted, Written};
-use nas_base::{Full, Writer};
+use crate::{Coded, Readable, Spelled};
+use nas_elements::laws::{
+    address_is_read_back, algs_are_read_back, ambr_is_read_back, asi_is_read_back,
+    capability_is_read_back, dnn_is_read_back, guti_is_read_back, nssai_is_read_back,
+    slice_is_read_back, status_is_read_back, tai_list_is_read_back, timer3_is_read_back,
+};
 use nas_elements::{
-    Address, Ambr, Asi, Capability, Dnn, Guti, Identity, Nssai, Slice, Status, TaiList, Timer3,
+    Address, Algs, Ambr, Asi, Capability, Dnn, Guti, Identity, Nssai, Slice, Status, TaiList,
+    Timer3,
 };
 
-impl Written for Address {
-    ghost use Rattle.nas_elements.specs.Address.{address_octets};
+impl Coded for Address {
+    ghost use Rattle.nas_layout.specs.Codings.{address};
 
-    ghost octets = { address_octets };
+    ghost coding = { address };
 
-    fn size(&self) -> usize {
-        self.size()
-    }
+    ghost most = { 13 };
 
-    fn write_to(&self, out: &mut Writer) -> Result<(), Full> {
-        self.write(out)
+    fn octets(&self) -> Spelled<'_> {
+        Spelled::of_octets(self.octets().as_slice())
     }
 }
 
-impl Counted for Address {
-    fn count(&self) -> u8 {
-        self.size() as u8
+impl Readable for Address {
+    fn read_from(octets: &[u8]) -> Option<Address> {
+        Address::read(octets).ok()
+    }
+
+    fn is_read_back(&self) {
+        address_is_read_back(self)
     }
 }
 
-impl Written for Ambr {
-    ghost use Rattle.nas_elements.specs.Ambr.{ambr_octets};
+impl Coded for Algs {
+    ghost use Rattle.nas_layout.specs.Codings.{algs};
 
-    ghost octets = { ambr_octets };
+    ghost coding = { algs };
 
-    fn size(&self) -> usize {
-        6
-    }
+    ghost most = { 1 };
 
-    fn write_to(&self, out: &mut Writer) -> Result<(), Full> {
-        self.write(out)
+    fn octets(&self) -> Spelled<'_> {
+        Spelled::of_octets(&self.octets())
     }
 }
 
-impl Counted for Ambr {
-    fn count(&self) -> u8 {
-        6
+impl Readable for Algs {
+    fn read_from(octets: &[u8]) -> Option<Algs> {
+        Algs::read(octets).ok()
+    }
+
+    fn is_read_back(&self) {
+        algs_are_read_back(*self)
     }
 }
 
-impl Written for Asi {
-    ghost use Rattle.nas_elements.specs.Asi.{asi_octets};
+impl Coded for Ambr {
+    ghost use Rattle.nas_layout.specs.Codings.{ambr};
 
-    ghost octets = { asi_octets };
+    ghost coding = { ambr };
 
-    fn size(&self) -> usize {
-        1
-    }
+    ghost most = { 6 };
 
-    fn write_to(&self, out: &mut Writer) -> Result<(), Full> {
-        self.write(out)
+    fn octets(&self) -> Spelled<'_> {
+        Spelled::of_octets(&self.octets())
     }
 }
 
-impl Counted for Asi {
-    fn count(&self) -> u8 {
-        1
+impl Readable for Ambr {
+    fn read_from(octets: &[u8]) -> Option<Ambr> {
+        Ambr::read(octets).ok()
+    }
+
+    fn is_read_back(&self) {
+        ambr_is_read_back(*self)
     }
 }
 
-impl Written for Capability {
-    ghost octets = { λ octets. octets };
+impl Coded for Asi {
+    ghost use Rattle.nas_layout.specs.Codings.{asi};
 
-    fn size(&self) -> usize {
-        self.as_slice().len()
-    }
+    ghost coding = { asi };
 
-    fn write_to(&self, out: &mut Writer) -> Result<(), Full> {
-        self.write(out)
-    }
-}
+    ghost most = { 1 };
 
-impl Counted for Capability {
-    fn count(&self) -> u8 {
-        self.as_slice().len() as u8
+    fn octets(&self) -> Spelled<'_> {
+        Spelled::of_octets(&self.octets())
     }
 }
 
-impl Written for Dnn {
-    ghost octets = { λ octets. octets };
-
-    fn size(&self) -> usize {
-        self.as_slice().len()
+impl Readable for Asi {
+    fn read_from(octets: &[u8]) -> Option<Asi> {
+        Asi::read(octets).ok()
     }
 
-    fn write_to(&self, out: &mut Writer) -> Result<(), Full> {
-        self.write(out)
+    fn is_read_back(&self) {
+        asi_is_read_back(*self)
     }
 }
 
-impl Counted for Dnn {
-    fn count(&self) -> u8 {
-        self.as_slice().len() as u8
+impl Coded for Capability {
+    ghost use Rattle.nas_layout.specs.Codings.{capability};
+
+    ghost coding = { capability };
+
+    ghost most = { 8 };
+
+    fn octets(&self) -> Spelled<'_> {
+        Spelled::Kept(self.as_slice())
     }
 }
 
-impl Written for Guti {
-    ghost use Rattle.nas_elements.specs.Guti.{guti_octets};
-
-    ghost octets = { guti_octets };
-
-    fn size(&self) -> usize {
-        11
+impl Readable for Capability {
+    fn read_from(octets: &[u8]) -> Option<Capability> {
+        Capability::read(octets).ok()
     }
 
-    fn write_to(&self, out: &mut Writer) -> Result<(), Full> {
-        self.write(out)
+    fn is_read_back(&self) {
+        capability_is_read_back(self)
     }
 }
 
-impl Counted for Guti {
-    fn count(&self) -> u8 {
-        11
+impl Coded for Dnn {
+    ghost use Rattle.nas_layout.specs.Codings.{dnn};
+
+    ghost coding = { dnn };
+
+    ghost most = { 100 };
+
+    fn octets(&self) -> Spelled<'_> {
+        Spelled::Kept(self.as_slice())
     }
 }
 
-impl Written for Identity {
-    ghost use Rattle.nas_elements.specs.Identity.{identity_octets};
-
-    ghost octets = { identity_octets };
-
-    fn size(&self) -> usize {
-        self.size()
+impl Readable for Dnn {
+    fn read_from(octets: &[u8]) -> Option<Dnn> {
+        Dnn::read(octets).ok()
     }
 
-    fn write_to(&self, out: &mut Writer) -> Result<(), Full> {
-        self.write(out)
+    fn is_read_back(&self) {
+        dnn_is_read_back(self)
     }
 }
 
-impl Written for Nssai {
-    ghost use Rattle.nas_elements.specs.Nssai.{nssai_octets};
+impl Coded for Guti {
+    ghost use Rattle.nas_layout.specs.Codings.{guti};
 
-    ghost octets = { nssai_octets };
+    ghost coding = { guti };
 
-    fn size(&self) -> usize {
-        self.size()
-    }
+    ghost most = { 11 };
 
-    fn write_to(&self, out: &mut Writer) -> Result<(), Full> {
-        self.write(out)
+    fn octets(&self) -> Spelled<'_> {
+        Spelled::of_octets(self.octets().as_slice())
     }
 }
 
-impl Counted for Nssai {
-    fn count(&self) -> u8 {
-        self.size() as u8
+impl Readable for Guti {
+    fn read_from(octets: &[u8]) -> Option<Guti> {
+        Guti::read(octets).ok()
+    }
+
+    fn is_read_back(&self) {
+        guti_is_read_back(self)
     }
 }
 
-impl Written for Slice {
-    ghost use Rattle.nas_elements.specs.Slice.{slice_octets};
+impl Coded for Identity {
+    ghost use Rattle.nas_layout.specs.Codings.{identity};
 
-    ghost octets = { slice_octets };
+    ghost coding = { identity };
 
-    fn size(&self) -> usize {
-        self.size()
-    }
+    ghost most = { 4100 };
 
-    fn write_to(&self, out: &mut Writer) -> Result<(), Full> {
-        self.write(out)
-    }
-}
-
-impl Counted for Slice {
-    fn count(&self) -> u8 {
-        self.size() as u8
+    fn octets(&self) -> Spelled<'_> {
+        match self {
+            Identity::Suci(suci) => Spelled::of_octets(suci.octets().as_slice()),
+            Identity::Guti(guti) => Spelled::of_octets(guti.octets().as_slice()),
+            Identity::Stmsi(stmsi) => Spelled::of_octets(&stmsi.octets()),
+            Identity::Other(other) => Spelled::Kept(other.as_slice()),
+        }
     }
 }
 
-impl Written for Status {
-    ghost use Rattle.nas_elements.specs.Status.{status_octets};
+impl Coded for Nssai {
+    ghost use Rattle.nas_layout.specs.Codings.{nssai};
 
-    ghost octets = { status_octets };
+    ghost coding = { nssai };
 
-    fn size(&self) -> usize {
-        2
-    }
+    ghost most = { 40 };
 
-    fn write_to(&self, out: &mut Writer) -> Result<(), Full> {
-        self.write(out)
+    fn octets(&self) -> Spelled<'_> {
+        Spelled::of_octets(self.octets().as_slice())
     }
 }
 
-impl Counted for Status {
-    fn count(&self) -> u8 {
-        2
+impl Readable for Nssai {
+    fn read_from(octets: &[u8]) -> Option<Nssai> {
+        Nssai::read(octets).ok()
+    }
+
+    fn is_read_back(&self) {
+        nssai_is_read_back(self)
     }
 }
 
-impl Written for TaiList {
-    ghost octets = { λ octets. octets };
+impl Coded for Slice {
+    ghost use Rattle.nas_layout.specs.Codings.{slice};
 
-    fn size(&self) -> usize {
-        self.as_slice().len()
-    }
+    ghost coding = { slice };
 
-    fn write_to(&self, out: &mut Writer) -> Result<(), Full> {
-        self.write(out)
-    }
-}
+    ghost most = { 4 };
 
-impl Counted for TaiList {
-    fn count(&self) -> u8 {
-        self.as_slice().len() as u8
+    fn octets(&self) -> Spelled<'_> {
+        Spelled::of_octets(self.octets().as_slice())
     }
 }
 
-impl Written for Timer3 {
-    ghost use Rattle.nas_elements.specs.Timer3.{timer3_octets};
-
-    ghost octets = { timer3_octets };
-
-    fn size(&self) -> usize {
-        1
+impl Readable for Slice {
+    fn read_from(octets: &[u8]) -> Option<Slice> {
+        Slice::read(octets).ok()
     }
 
-    fn write_to(&self, out: &mut Writer) -> Result<(), Full> {
-        self.write(out)
+    fn is_read_back(&self) {
+        slice_is_read_back(self)
     }
 }
 
-impl Counted for Timer3 {
-    fn count(&self) -> u8 {
-        1
+impl Coded for Status {
+    ghost use Rattle.nas_layout.specs.Codings.{status};
+
+    ghost coding = { status };
+
+    ghost most = { 2 };
+
+    fn octets(&self) -> Spelled<'_> {
+        Spelled::of_octets(&self.octets())
+    }
+}
+
+impl Readable for Status {
+    fn read_from(octets: &[u8]) -> Option<Status> {
+        Status::read(octets).ok()
+    }
+
+    fn is_read_back(&self) {
+        status_is_read_back(*self)
+    }
+}
+
+impl Coded for TaiList {
+    ghost use Rattle.nas_layout.specs.Codings.{tai_list};
+
+    ghost coding = { tai_list };
+
+    ghost most = { 112 };
+
+    fn octets(&self) -> Spelled<'_> {
+        Spelled::Kept(self.as_slice())
+    }
+}
+
+impl Readable for TaiList {
+    fn read_from(octets: &[u8]) -> Option<TaiList> {
+        TaiList::read(octets).ok()
+    }
+
+    fn is_read_back(&self) {
+        tai_list_is_read_back(self)
+    }
+}
+
+impl Coded for Timer3 {
+    ghost use Rattle.nas_layout.specs.Codings.{timer3};
+
+    ghost coding = { timer3 };
+
+    ghost most = { 1 };
+
+    fn octets(&self) -> Spelled<'_> {
+        Spelled::of_octets(&self.octets())
+    }
+}
+
+impl Readable for Timer3 {
+    fn read_from(octets: &[u8]) -> Option<Timer3> {
+        Timer3::read(octets).ok()
+    }
+
+    fn is_read_back(&self) {
+        timer3_is_read_back(*self)
     }
 }

@@ -4,8 +4,7 @@ ghost use Rattle.nas_elements.specs.Packed.{two_halves};
 ghost use Rattle.nas_elements.specs.Reads.{Reads};
 ghost use Rattle.nas_layout.specs.Half.{half_in};
 
-use crate::{Counted, Written};
-use nas_base::{Full, Writer};
+use crate::{Coded, Readable, Spelled};
 use nas_elements::Wrong;
 use std::marker::Model;
 
@@ -48,22 +47,24 @@ pub fn two_halves(low: Half, high: Half) -> u8
     low.0 + 16 * high.0
 }
 
-impl Written for Half {
-    ghost use Rattle.nas_layout.specs.Half.{half_octets};
+impl Coded for Half {
+    ghost use Rattle.nas_layout.specs.Codings.{half};
 
-    ghost octets = { half_octets };
+    ghost coding = { half };
 
-    fn size(&self) -> usize {
-        1
-    }
+    ghost most = { 1 };
 
-    fn write_to(&self, out: &mut Writer) -> Result<(), Full> {
-        out.put(&[self.0])
+    fn octets(&self) -> Spelled<'_> {
+        Spelled::of_octets(&[self.0])
     }
 }
 
-impl Counted for Half {
-    fn count(&self) -> u8 {
-        1
+impl Readable for Half {
+    fn read_from(octets: &[u8]) -> Option<Half> {
+        Half::read(octets).ok()
+    }
+
+    fn is_read_back(&self) {
+        let _half = self.0;
     }
 }

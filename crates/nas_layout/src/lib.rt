@@ -1,31 +1,30 @@
-//! What the messages of 5GMM and 5GSM share: how they are laid out behind their heads, and how their parts and elements are
-//! read and written.
+//! What the messages of 5GMM and 5GSM share: the table of a message behind its head, and how its parts and elements are read and
+//! told piece by piece.
 #![tactic(auto)]
 
 mod abba;
 mod body;
-pub mod element_laws;
+mod coded;
+mod containers;
 mod elements;
 mod frame;
 mod half;
-mod known;
-mod laws;
-mod parts;
+pub mod iei;
+pub mod laws;
+mod octets;
+mod pieces;
+mod reading;
 mod rows;
-#[cfg(test)]
-mod tests;
+mod size;
 mod writing;
-mod written;
 
 pub use crate::abba::Abba;
-pub use crate::body::{BodyRefusal, cut, value};
+pub use crate::body::{BodyRefusal, cut};
+pub use crate::coded::{Coded, Readable, Spelled};
+pub use crate::containers::{container_part, identity_part, known_container};
 pub use crate::frame::Frame;
 pub use crate::half::{Half, two_halves};
-pub use crate::known::{known_container, known_dnn, known_half, known_octet, known_slice};
-pub use crate::laws::{abba_is_read_back, half_is_read_back, written_are_found};
-pub use crate::parts::{container_part, octet_part};
+pub use crate::pieces::{Pieces, element, part};
+pub use crate::reading::{known, read_part};
 pub use crate::rows::{fixed_row, tlv_row, tlve_row};
-pub use crate::writing::{
-    half_tv, half_tv_size, lv, lv_size, lve, lve_size, tlv, tlv_size, tlve, tlve_size, tv, tv_size,
-};
-pub use crate::written::{Counted, Written};
+pub use crate::size::{Size, TooManyPieces};

@@ -1,4 +1,4 @@
-//! The rows of a message's elements.
+//! The rows of a message's elements, by which a walk finds them.
 ghost use Rattle.std.specs.Prelude.{◌≡◌};
 ghost use Rattle.nas_layout.specs.Rows.{fixed_row, tlv_row, tlve_row};
 
@@ -24,12 +24,12 @@ pub fn tlve_row(iei: u8) -> Row
     }
 }
 
-/// An element without a length, with a value of so many octets behind its identifier. A greater number than 254 counts as 254.
-pub fn fixed_row(iei: u8, value: u8) -> Row
-    ensures { result ≡ fixed_row iei value }
+/// An element without a length: so many octets together with its identifier, 0 counts as 1.
+pub fn fixed_row(iei: u8, octets: u8) -> Row
+    ensures { result ≡ fixed_row iei octets }
 {
     Row {
         iei,
-        form: Form::Fixed(1 + value.min(254)),
+        form: Form::Fixed(octets.max(1)),
     }
 }

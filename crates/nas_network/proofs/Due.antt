@@ -4,7 +4,7 @@ use Rattle.std.proofs.lemmas.Grind.{common_steps}
 use Rattle.nas_base.specs.Branches.{per}
 use Rattle.nas_network.specs.State.{NetworkState, SubscriberTimers, stopped_for}
 use Rattle.nas_network.specs.Network.{answered}
-use Rattle.nas_network.specs.Ticks.{DueTimer, due_within, first_due, ticked, told}
+use Rattle.nas_network.specs.Ticks.{DueTimer, due_within, first_due, names, ticked, told}
 use Rattle.nas_network.specs.declared.command.NetDelivery.{NetDelivery}
 
 none_within : (n now : ℕ) (ss : List SubscriberTimers) → first_due now ss ≡ None → due_within n now ss ≡ []
@@ -18,11 +18,11 @@ unfolding per due_within
 some_within n now ss d some = rw some refl
 
 -- where the found ones are put before the others, one more is found
-pub due_found : (c now : ℕ) (ss : List SubscriberTimers) (d : DueTimer) (list whole : List DueTimer) → c < 6144 → first_due now ss ≡ Some d →
-    list ++ due_within (6144 - c) now ss ≡ whole → (list ++ d ∷ []) ++ due_within (6144 - (c + 1)) now (stopped_for d.supi d.id ss) ≡ whole
+pub due_found : (c now : ℕ) (ss : List SubscriberTimers) (d : DueTimer) (list whole : List DueTimer) → c < names → first_due now ss ≡ Some d →
+    list ++ due_within (names - c) now ss ≡ whole → (list ++ d ∷ []) ++ due_within (names - (c + 1)) now (stopped_for d.supi d.id ss) ≡ whole
 due_found c now ss d list whole within some all =
-    let one : 6144 - c ≡ suc (6144 - (c + 1)) = omega arith in
-    let next : due_within (6144 - c) now ss ≡ d ∷ due_within (6144 - (c + 1)) now (stopped_for d.supi d.id ss) = rw one (some_within (6144 - (c + 1)) now ss d some) in
+    let one : names - c ≡ suc (names - (c + 1)) = omega arith in
+    let next : due_within (names - c) now ss ≡ d ∷ due_within (names - (c + 1)) now (stopped_for d.supi d.id ss) = rw one (some_within (names - (c + 1)) now ss d some) in
     grind (arith, common_steps)
 
 pub due_ended : (n now : ℕ) (ss : List SubscriberTimers) (list whole : List DueTimer) → first_due now ss ≡ None →
@@ -38,4 +38,4 @@ due_all (suc n) now ss list whole none all = absurd (omega arith)
 pub nothing_due : (rand : List ℕ) (now moment : ℕ) (n : NetworkState) (d : NetDelivery) → moment ≡ max n.moment now → first_due moment n.timers ≡ None →
     d ≡ record { sends = []; passed = None } → answered (told moment n) d ≡ ticked rand now n
 unfolding ticked
-nothing_due rand now moment n d later none nothing = rw (sym later, none_within 6144 moment n.timers none, nothing) refl
+nothing_due rand now moment n d later none nothing = rw (sym later, none_within names moment n.timers none, nothing) refl

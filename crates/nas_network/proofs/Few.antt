@@ -1,6 +1,5 @@
 -- Two 5G-GUTIs at most are kept for each subscriber, said of a list and of each of it.
-use Rattle.std.proofs.Common.{◌≡◌, ◌≤◌, refl, ap, sym, subst, inl, inr, ℕ, Bool, true, List, [], ◌∷◌, length, nat_le, map, ◌&&◌, arith}
-use Rattle.std.specs.List.{list_all}
+use Rattle.std.proofs.Common.{◌≡◌, refl, subst, inl, inr, true, List, [], ◌∷◌, map, arith}
 use Rattle.std.proofs.lemmas.Bool.{and_parts}
 use Rattle.std.proofs.lemmas.Bool.Decides.{nat_tests}
 use Rattle.amf_core.specs.State.{unknown_yet}

@@ -4,7 +4,7 @@ use Rattle.std.specs.Str.{bytes_eq}
 use Rattle.nas_timers.specs.Timers as timers
 use Rattle.nas_timers.specs.Timers.{started, stopped}
 use Rattle.nas_timers.specs.declared.timer_id.TimerId.{TimerId}
-use Rattle.nas_timers.specs.declared.timer_id.TimerId.TheVariants.{T3510, T3516, T3517, T3521, T3522, T3550, T3560, T3580, T3581, T3582, T3591, T3592}
+use Rattle.nas_timers.specs.declared.timer_id.TimerId.TheVariants.{T3510, T3516, T3517, T3521, T3522, T3550, T3555, T3560, T3580, T3581, T3582, T3591, T3592}
 use Rattle.nas_timers.proofs.DeadlineLaws.{deadline_of-started, deadline_of-stopped}
 use Rattle.amf_core.specs.declared.outs.AmfOut.{AmfOut}
 use Rattle.amf_core.specs.declared.outs.AmfOut.TheVariants as outs
@@ -22,6 +22,7 @@ starts T3517 at ts = rw (deadline_of-started T3560 T3517 at ts, deadline_of-star
 starts T3521 at ts = rw (deadline_of-started T3560 T3521 at ts, deadline_of-started T3550 T3521 at ts, deadline_of-started T3522 T3521 at ts) refl
 starts T3522 at ts = rw (deadline_of-started T3560 T3522 at ts, deadline_of-started T3550 T3522 at ts, deadline_of-started T3522 T3522 at ts) refl
 starts T3550 at ts = rw (deadline_of-started T3560 T3550 at ts, deadline_of-started T3550 T3550 at ts, deadline_of-started T3522 T3550 at ts) refl
+starts T3555 at ts = rw (deadline_of-started T3560 T3555 at ts, deadline_of-started T3550 T3555 at ts, deadline_of-started T3522 T3555 at ts) refl
 starts T3560 at ts = rw (deadline_of-started T3560 T3560 at ts, deadline_of-started T3550 T3560 at ts, deadline_of-started T3522 T3560 at ts) refl
 starts (T3580 psi) at ts = rw (deadline_of-started T3560 (T3580 psi) at ts, deadline_of-started T3550 (T3580 psi) at ts, deadline_of-started T3522 (T3580 psi) at ts) refl
 starts (T3581 psi) at ts = rw (deadline_of-started T3560 (T3581 psi) at ts, deadline_of-started T3550 (T3581 psi) at ts, deadline_of-started T3522 (T3581 psi) at ts) refl
@@ -36,6 +37,7 @@ stops T3517 ts = rw (deadline_of-stopped T3560 T3517 ts, deadline_of-stopped T35
 stops T3521 ts = rw (deadline_of-stopped T3560 T3521 ts, deadline_of-stopped T3550 T3521 ts, deadline_of-stopped T3522 T3521 ts) refl
 stops T3522 ts = rw (deadline_of-stopped T3560 T3522 ts, deadline_of-stopped T3550 T3522 ts, deadline_of-stopped T3522 T3522 ts) refl
 stops T3550 ts = rw (deadline_of-stopped T3560 T3550 ts, deadline_of-stopped T3550 T3550 ts, deadline_of-stopped T3522 T3550 ts) refl
+stops T3555 ts = rw (deadline_of-stopped T3560 T3555 ts, deadline_of-stopped T3550 T3555 ts, deadline_of-stopped T3522 T3555 ts) refl
 stops T3560 ts = rw (deadline_of-stopped T3560 T3560 ts, deadline_of-stopped T3550 T3560 ts, deadline_of-stopped T3522 T3560 ts) refl
 stops (T3580 psi) ts = rw (deadline_of-stopped T3560 (T3580 psi) ts, deadline_of-stopped T3550 (T3580 psi) ts, deadline_of-stopped T3522 (T3580 psi) ts) refl
 stops (T3581 psi) ts = rw (deadline_of-stopped T3560 (T3581 psi) ts, deadline_of-stopped T3550 (T3581 psi) ts, deadline_of-stopped T3522 (T3581 psi) ts) refl

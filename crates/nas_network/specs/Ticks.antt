@@ -1,6 +1,7 @@
 -- The timers that are due at a moment.
-use Rattle.std.specs.Prelude.{ℕ, zero, suc, Bool, false, nat_lt, nat_le, max, ◌==◌, ◌&&◌, ◌||◌, List, [], ◌∷◌, Option, Some, None, if◌then◌else◌}
+use Rattle.std.specs.Prelude.{ℕ, zero, suc, ◌*◌, Bool, false, nat_lt, nat_le, max, ◌==◌, ◌&&◌, ◌||◌, List, [], ◌∷◌, Option, Some, None, if◌then◌else◌}
 use Rattle.nas_base.specs.Branches.{per, when◌then◌else◌}
+use Rattle.nas_timers.specs.declared.timer_id.TheConstants.{NAMES}
 use Rattle.nas_timers.specs.Names.{is_before}
 use Rattle.nas_timers.specs.Timers.{deadline_of, due_of}
 use Rattle.nas_timers.specs.declared.timer_id.TimerId.{TimerId}
@@ -48,7 +49,7 @@ due_within zero now ss = []
 due_within (suc n) now ss = per (first_due now ss) [] (λ (d : DueTimer). d ∷ due_within n now (stopped_for d.supi d.id ss))
 
 abbrev pub names : ℕ
-names = 6144
+names = 64 * NAMES
 
 abbrev pub due_list : ℕ → List SubscriberTimers → List DueTimer
 due_list now ss = due_within names now ss

@@ -33,7 +33,7 @@ pub fn home_list(alloc: Global, subscribers: &[Subscriber]) -> Result<HomeList, 
 {
     let mut home = HomeList::new(alloc);
     for subscriber in subscribers {
-        match home.push(subscriber.to_home()) {
+        match home.push(alloc, subscriber.to_home()) {
             Ok(()) => {}
             Err(_) => return Err(Memory),
         }

@@ -28,7 +28,7 @@ impl Model for Dnns {
 
 impl Dnns {
     /// These names, or None exactly where they are none or more than 8.
-    pub fn of(items: Vec<Dnn>) -> Option<Dnns>
+    pub fn from_items(items: Vec<Dnn>) -> Option<Dnns>
         ensures { result ≡ dnns_from items.items }
     {
         if items.is_empty() || items.len() > 8 {

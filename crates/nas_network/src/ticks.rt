@@ -9,12 +9,12 @@ use crate::timers::{SubscriberTimers, copies, deadline_for, stop_for};
 use crate::turn::Gained;
 use amf_core::AmfInput;
 use nas_base::{Memory, Moment, Supi};
-use nas_timers::TimerId;
+use nas_timers::{NAMES, TimerId};
 use std::alloc::Global;
 use std::marker::Model;
 
 // How many names 64 subscribers' timers may have.
-const NAMES: usize = 6144;
+const MOST: usize = 64 * NAMES;
 
 /// A timer of a subscriber that was due, and its deadline.
 #[derive(Drop)]
@@ -112,7 +112,7 @@ pub fn due_list(
 {
     let mut left = copies(alloc, timers)?;
     let mut list = Vec::new(alloc);
-    for _ in 0..NAMES {
+    for _ in 0..MOST {
         let Some(due) = first_due(now, left.as_slice()) else {
             break;
         };

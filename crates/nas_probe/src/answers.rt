@@ -3,7 +3,7 @@
 use crate::words::Refusal;
 use crate::{
     aes_calls, element_calls, frame_calls, handset_calls, key_calls, message_calls, milenage_calls,
-    mobility_calls, network_calls, qos_calls,
+    mobility_calls, network_calls, qos_calls, run_calls, timer_calls, walk_calls,
 };
 use std::alloc::{AllocError, Global};
 
@@ -33,6 +33,14 @@ fn called(alloc: Global, line: &[u8]) -> Result<String, Refusal> {
         Err(Refusal::Unreadable) => (),
         answer => return answer,
     }
+    match walk_calls::answer(alloc, words) {
+        Err(Refusal::Unreadable) => (),
+        answer => return answer,
+    }
+    match timer_calls::answer(alloc, words) {
+        Err(Refusal::Unreadable) => (),
+        answer => return answer,
+    }
     match element_calls::answer(alloc, words) {
         Err(Refusal::Unreadable) => (),
         answer => return answer,
@@ -54,6 +62,10 @@ fn called(alloc: Global, line: &[u8]) -> Result<String, Refusal> {
         answer => return answer,
     }
     match mobility_calls::answer(alloc, words) {
+        Err(Refusal::Unreadable) => (),
+        answer => return answer,
+    }
+    match run_calls::answer(alloc, words) {
         Err(Refusal::Unreadable) => (),
         answer => return answer,
     }

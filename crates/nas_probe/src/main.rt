@@ -28,6 +28,9 @@ mod network_inputs;
 mod network_texts;
 mod network_times;
 mod qos_calls;
+mod run_calls;
+mod timer_calls;
+mod walk_calls;
 mod words;
 
 use std::io::{self, BufRead, BufReader, BufWriter, Write};

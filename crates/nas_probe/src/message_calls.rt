@@ -2,16 +2,19 @@
 //!
 //!     mm OCTETS
 //!     sm OCTETS
+//!     sessions OCTETS OCTETS
 //!     show OCTETS
 //!
 //! The answer to `mm` and to `sm` is the octets that the message is written as, or `ignored AT`, `unknown N` or `mandatory PART AT`.
-//! That to `show` is the text with a stroke for each line's end, or `octets PLACE`. Numbers are decimal.
+//! That to `sessions` is `equal` or `differ`, of a copy of the session that the first PDU SESSION ESTABLISHMENT ACCEPT brings and of
+//! that of the second. That to `show` is the text with a stroke for each line's end, or `octets PLACE`. Numbers are decimal.
 
-use crate::words::{Refusal, octets, text};
+use crate::words::{Refusal, in_one_line, octets, text};
 use mm_messages::{MmRefusal, decode_mm, encode_mm};
 use nas_base::Writer;
+use nas_qos::{ApplyRefusal, OpsRefusal, Rules, apply, read_ops};
 use nas_show::{ShowRefusal, show};
-use sm_messages::{SmRefusal, decode_sm, encode_sm};
+use sm_messages::{Session, Sm, SmRefusal, decode_sm, encode_sm};
 use std::alloc::{AllocError, Global};
 
 /// The answer to a call.
@@ -19,6 +22,7 @@ pub fn answer(alloc: Global, words: &[&str]) -> Result<String, Refusal> {
     match words {
         ["mm", input] => message(alloc, &octets(alloc, input)?),
         ["sm", input] => session_message(alloc, &octets(alloc, input)?),
+        ["sessions", first, second] => compared(alloc, first, second),
         ["show", input] => shown(alloc, &octets(alloc, input)?),
         _ => Err(Refusal::Unreadable),
     }
@@ -60,6 +64,53 @@ fn session_message(alloc: Global, given: &[u8]) -> Result<String, Refusal> {
     word(line)
 }
 
+// Whether a copy of one session equals another.
+fn compared(alloc: Global, first: &str, second: &str) -> Result<String, Refusal> {
+    let copy = established(alloc, &octets(alloc, first)?)?.copy(alloc)?;
+    let other = established(alloc, &octets(alloc, second)?)?;
+    let answer = if copy.equals(&other) {
+        "equal"
+    } else {
+        "differ"
+    };
+    word(String::from_str(alloc, answer))
+}
+
+// The session that a PDU SESSION ESTABLISHMENT ACCEPT brings.
+fn established(alloc: Global, given: &[u8]) -> Result<Session, Refusal> {
+    let frame = match decode_sm(alloc, given) {
+        Ok(frame) => frame,
+        Err(SmRefusal::Memory) => return Err(Refusal::Memory),
+        Err(_) => return Err(Refusal::Unreadable),
+    };
+    let Sm::PduSessionEstablishmentAccept(accept) = frame.body else {
+        return Err(Refusal::Unreadable);
+    };
+    let rules = applied(alloc, accept.rules.as_slice())?;
+    Ok(Session {
+        kind: accept.session_type.0,
+        address: accept.address,
+        dnn: accept.dnn,
+        slice: accept.slice,
+        ambr: accept.ambr,
+        rules,
+    })
+}
+
+// The rules that operations make where there is none.
+fn applied(alloc: Global, given: &[u8]) -> Result<Rules, Refusal> {
+    let ops = match read_ops(alloc, given) {
+        Ok(ops) => ops,
+        Err(OpsRefusal::Syntax { at: _ }) => return Err(Refusal::Unreadable),
+        Err(OpsRefusal::Memory) => return Err(Refusal::Memory),
+    };
+    match apply(alloc, &Rules::new(alloc), &ops) {
+        Ok(rules) => Ok(rules),
+        Err(ApplyRefusal::Qos(_)) => Err(Refusal::Unreadable),
+        Err(ApplyRefusal::Memory) => Err(Refusal::Memory),
+    }
+}
+
 // Octets as text, in one line.
 fn shown(alloc: Global, given: &[u8]) -> Result<String, Refusal> {
     match show(alloc, given) {
@@ -67,18 +118,6 @@ fn shown(alloc: Global, given: &[u8]) -> Result<String, Refusal> {
         Err(ShowRefusal::Octets { place }) => word(format!(in alloc; "octets {place}")),
         Err(ShowRefusal::Memory) => Err(Refusal::Memory),
     }
-}
-
-// The text with a stroke for each line's end.
-fn in_one_line(alloc: Global, lines: &[u8]) -> Result<String, Refusal> {
-    let mut line = String::new(alloc);
-    for byte in lines {
-        let shown = if *byte == b'\n' { '|' } else { *byte as char };
-        if line.push(shown).is_err() {
-            return Err(Refusal::Memory);
-        }
-    }
-    Ok(line)
 }
 
 fn word(line: Result<String, AllocError>) -> Result<String, Refusal> {

@@ -1,11 +1,10 @@
 //! The words that are given to a handset's 5GMM; mobility_calls lists them.
 
 use crate::handset_inputs::command;
-use crate::words::{Refusal, kept, octets, quantity};
-use nas_base::{Octets, Psi};
+use crate::words::{Refusal, kept, octets, quantity, session, timer};
+use nas_base::Octets;
 use nas_elements::{Dnn, Status};
 use nas_handset::UeCommand;
-use nas_timers::TimerId;
 use std::alloc::Global;
 use ue_mm::{MmCommand, UeInput};
 
@@ -70,19 +69,6 @@ fn message(alloc: Global, word: &str) -> Result<Octets, Refusal> {
     kept(alloc, &octets(alloc, word)?)
 }
 
-fn timer(word: &str) -> Result<TimerId, Refusal> {
-    match word {
-        "T3510" => Ok(TimerId::T3510),
-        "T3516" => Ok(TimerId::T3516),
-        "T3517" => Ok(TimerId::T3517),
-        "T3521" => Ok(TimerId::T3521),
-        "T3522" => Ok(TimerId::T3522),
-        "T3550" => Ok(TimerId::T3550),
-        "T3560" => Ok(TimerId::T3560),
-        _ => Err(Refusal::Unreadable),
-    }
-}
-
 fn carry(alloc: Global, words: &str) -> Result<UeInput, Refusal> {
     let Some((number, words)) = words.split_once(":") else {
         return Err(Refusal::Unreadable);
@@ -91,12 +77,8 @@ fn carry(alloc: Global, words: &str) -> Result<UeInput, Refusal> {
         Some((frame, dnn)) => (frame, Some(network(alloc, dnn)?)),
         None => (words, None),
     };
-    let psi = match u8::try_from(quantity(number)?) {
-        Ok(number) => Psi::from_number(number).ok_or(Refusal::Unreadable)?,
-        Err(_) => return Err(Refusal::Unreadable),
-    };
     Ok(UeInput::Carry {
-        psi,
+        psi: session(number)?,
         dnn,
         frame: message(alloc, frame)?,
     })

@@ -194,5 +194,5 @@ fn dnns(alloc: Global) -> Result<Dnns, Refusal> {
     let mut names = Vec::new(alloc);
     let name = Dnn::read(&DNN).map_err(|_| Refusal::Unreadable)?;
     names.push(name).map_err(|_| Refusal::Memory)?;
-    Dnns::of(names).ok_or(Refusal::Unreadable)
+    Dnns::from_items(names).ok_or(Refusal::Unreadable)
 }

@@ -1,5 +1,4 @@
 //! A network on its way through inputs.
-ghost use Rattle.std.specs.Prelude.{◌≤◌};
 
 use crate::handset_course::push;
 use crate::network_inputs::{Input, Word};

@@ -53,9 +53,12 @@ fn sent_text(alloc: Global, send: &Send) -> Result<String, Refusal> {
 fn gutis_text(alloc: Global, gutis: &Gutis) -> Result<String, Refusal> {
     match gutis.as_slice() {
         [] => none(alloc),
-        [guti] => guti_text(alloc, guti),
+        [one] => guti_text(alloc, &one.guti),
         [older, newer, ..] => {
-            let (older, newer) = (guti_text(alloc, older)?, guti_text(alloc, newer)?);
+            let (older, newer) = (
+                guti_text(alloc, &older.guti)?,
+                guti_text(alloc, &newer.guti)?,
+            );
             word(format!(in alloc; "{older}.{newer}"))
         }
     }

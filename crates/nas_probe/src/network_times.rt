@@ -1,5 +1,4 @@
 //! A network's steps in a registration, and those of both ends, done often, for a clock outside.
-ghost use Rattle.std.specs.Prelude.{◌≤◌};
 
 use crate::frame_calls::sum_of;
 use crate::handset_calls;

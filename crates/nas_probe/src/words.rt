@@ -3,7 +3,8 @@ ghost use Rattle.std.specs.Prelude.{◌≤◌, ◌<◌, ◌^◌, length, IfOk};
 
 use arrayvec::ArrayVec;
 use hex::FromHexError;
-use nas_base::{Count, Dir, Memory, Octets, OctetsRefusal, Plmn, Supi};
+use nas_base::{Count, Dir, Memory, Octets, OctetsRefusal, Plmn, Psi, Supi};
+use nas_timers::TimerId;
 use std::alloc::Global;
 
 /// Why a line has no answer of its own.
@@ -123,6 +124,44 @@ pub fn count(word: &str) -> Result<Count, Refusal> {
     }
 }
 
+/// A PDU session: 1 to 15.
+pub fn session(word: &str) -> Result<Psi, Refusal> {
+    match word.parse::<u8>() {
+        Ok(number) => Psi::from_number(number).ok_or(Refusal::Unreadable),
+        Err(_) => Err(Refusal::Unreadable),
+    }
+}
+
+/// The name of a timer, as `T3510`, or as `T3580/15` with its PDU session.
+pub fn timer(word: &str) -> Result<TimerId, Refusal> {
+    match word {
+        "T3510" => Ok(TimerId::T3510),
+        "T3516" => Ok(TimerId::T3516),
+        "T3517" => Ok(TimerId::T3517),
+        "T3521" => Ok(TimerId::T3521),
+        "T3522" => Ok(TimerId::T3522),
+        "T3550" => Ok(TimerId::T3550),
+        "T3555" => Ok(TimerId::T3555),
+        "T3560" => Ok(TimerId::T3560),
+        _ => session_timer(word),
+    }
+}
+
+fn session_timer(word: &str) -> Result<TimerId, Refusal> {
+    let Some((name, number)) = word.split_once("/") else {
+        return Err(Refusal::Unreadable);
+    };
+    let psi = session(number)?;
+    match name {
+        "T3580" => Ok(TimerId::T3580(psi)),
+        "T3581" => Ok(TimerId::T3581(psi)),
+        "T3582" => Ok(TimerId::T3582(psi)),
+        "T3591" => Ok(TimerId::T3591(psi)),
+        "T3592" => Ok(TimerId::T3592(psi)),
+        _ => Err(Refusal::Unreadable),
+    }
+}
+
 /// A direction: `up` or `down`.
 pub fn direction(word: &str) -> Result<Dir, Refusal> {
     match word {
@@ -151,6 +190,18 @@ pub fn texts(alloc: Global, values: &[&[u8]]) -> Result<String, Refusal> {
         }
         let word = text(alloc, value)?;
         line.push_str(word.as_str()).map_err(|_| Refusal::Memory)?;
+    }
+    Ok(line)
+}
+
+/// The text with a stroke for each line's end.
+pub fn in_one_line(alloc: Global, lines: &[u8]) -> Result<String, Refusal> {
+    let mut line = String::new(alloc);
+    for byte in lines {
+        let shown = if *byte == b'\n' { '|' } else { *byte as char };
+        if line.push(shown).is_err() {
+            return Err(Refusal::Memory);
+        }
     }
     Ok(line)
 }

@@ -1,8 +1,10 @@
 -- Filters that are joined, and those that are left where some are deleted.
-use Rattle.std.proofs.Common.{◌≡◌, ◌≤◌, Bool, true, false, not, ◌&&◌, List, [], ◌∷◌, ◌++◌, length, nat_eq, cond, arith, refl}
+use Rattle.std.proofs.Common.{◌≡◌, ◌<◌, ◌≤◌, ◌+◌, ℕ, Bool, true, false, not, ◌&&◌, List, [], ◌∷◌, ◌++◌, length, take, get_or, nat_eq, cond, append_assoc, sym, ◌∙◌, ap, arith, refl}
 use Rattle.std.specs.List.{filter, list_all, list_any}
 use Rattle.std.proofs.lemmas.Bool.Decides.{nat_tests}
 use Rattle.std.proofs.lemmas.Grind.{common_steps}
+use Rattle.std.proofs.lemmas.List.{append-nil}
+use Rattle.std.proofs.lemmas.List.Elements.{filter_more}
 use Rattle.nas_qos.specs.Applying.{remaining}
 use Rattle.nas_qos.specs.Filters.{PacketFilter, ids_differ, names}
 
@@ -51,3 +53,28 @@ none_left gone (f ∷ filters) = go (names f.id gone) (none_left gone filters) w
       → nat_eq (length (cond (not b) (f ∷ remaining gone filters) (remaining gone filters))) 0 ≡ (b && list_all (λ g. names g.id gone) filters)
   go true rest = rest
   go false rest = grind (arith, nat_tests)
+
+-- one filter more is looked at
+
+remaining_more : (gone filters : List PacketFilter) (i : ℕ) (one : PacketFilter) (named : Bool) → i < length filters → one ≡ get_or filters i one → names one.id gone ≡ named
+    → remaining gone (take (i + 1) filters) ≡ remaining gone (take i filters) ++ cond (not named) (one ∷ []) []
+remaining_more gone filters i one named there is told =
+    filter_more (λ f. not (names f.id gone)) filters i one there
+    ∙ ap (λ (f : PacketFilter). remaining gone (take i filters) ++ cond (not (names f.id gone)) (f ∷ []) []) (sym is)
+    ∙ ap (λ (b : Bool). remaining gone (take i filters) ++ cond (not b) (one ∷ []) []) told
+
+pub one_gone : (gone start filters before : List PacketFilter) (i : ℕ) (one : PacketFilter) → i < length filters → one ≡ get_or filters i one → names one.id gone ≡ true
+    → before ≡ start ++ remaining gone (take i filters)
+    → before ≡ start ++ remaining gone (take (i + 1) filters)
+one_gone gone start filters before i one there is named told =
+    told ∙ ap (λ fs. start ++ fs) (sym (remaining_more gone filters i one true there is named ∙ append-nil (remaining gone (take i filters))))
+
+pub one_kept : (gone start filters before after : List PacketFilter) (i : ℕ) (one : PacketFilter) → i < length filters → one ≡ get_or filters i one → names one.id gone ≡ false
+    → before ≡ start ++ remaining gone (take i filters)
+    → after ≡ before ++ one ∷ []
+    → after ≡ start ++ remaining gone (take (i + 1) filters)
+one_kept gone start filters before after i one there is other told pushed =
+    pushed
+    ∙ ap (λ fs. fs ++ one ∷ []) told
+    ∙ append_assoc start (remaining gone (take i filters)) (one ∷ [])
+    ∙ ap (λ fs. start ++ fs) (sym (remaining_more gone filters i one false there is other))

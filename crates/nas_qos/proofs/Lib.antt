@@ -1,4 +1,5 @@
 pub mod ApplyLaws
+pub mod Copies
 pub mod FilterLists
 pub mod FilterReading
 pub mod FiltersBack

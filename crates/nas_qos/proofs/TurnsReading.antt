@@ -1,7 +1,21 @@
 -- Reading items one after the other.
-use Rattle.std.proofs.Common.{◌≡◌, ◌<◌, ◌≤◌, ◌+◌, ◌-◌, ℕ, zero, suc, List, [], ◌∷◌, ◌++◌, length, drop, length-drop, append_assoc, sym, ◌∙◌, Option, Some, None, Result, Ok, Err, ap, arith, refl}
+use Rattle.std.proofs.Common.{◌≡◌, ◌<◌, ◌≤◌, ◌==◌, ◌+◌, ◌-◌, ℕ, zero, suc, Bool, true, false, List, [], ◌∷◌, ◌++◌, length, drop, length-drop, append_assoc, sym, ◌∙◌, Option, Some, None, Result, Ok, Err, ap, arith, refl}
+use Rattle.std.proofs.lemmas.Bool.{eqb-true}
+use Rattle.std.proofs.lemmas.Bool.Decides.{nat_tests}
 use Rattle.std.proofs.lemmas.Grind.{common_steps}
 use Rattle.nas_qos.specs.Turns.{all_octets, before, in_turn}
+
+-- octets that aren't empty
+pub some_there : (octets : List ℕ) (empty : Bool) → empty ≡ (length octets == 0) → empty ≡ false → 0 < length octets
+some_there octets empty is some = grind (arith, nat_tests, is, some)
+
+pub none_there : (octets : List ℕ) (empty : Bool) → empty ≡ (length octets == 0) → empty ≡ true → length octets ≡ 0
+none_there octets empty is none = eqb-true (length octets) 0 (sym is ∙ none)
+
+-- fewer are left behind an item
+pub less_left : (size : ℕ) (rest left : List ℕ) → 0 < size → 0 < length rest → left ≡ drop size rest → length left < length rest
+less_left size rest left moves some is =
+    let sizes : length left ≡ length (drop size rest) = ap length is in omega (arith, sizes, length-drop {A = ℕ} size rest, moves, some)
 
 -- items before others, where these are all there
 abbrev pub all_before : {A : Type 0} → List A → Result (List A) ℕ → Result (List A) ℕ

@@ -4,7 +4,7 @@ ghost use Rattle.std.specs.List.{list_all, list_any};
 ghost use Rattle.std.specs.Option.{option_copied};
 ghost use Rattle.nas_qos.specs.Filters.{names};
 ghost use Rattle.nas_qos.specs.Places.{lower, place};
-ghost use Rattle.nas_qos.specs.Applying.{adds_there, all_applied, applied, changed, changed_filters, changed_rule, created, creates_there, deletes_default, deletes_missing, first_not_default, found, is_taken, is_wrong, leaves_none, new_rule, precedence_in, qfi_in, remaining, second_default, sets_default, takes_precedence, within_limits, wrong_change, wrong_create};
+ghost use Rattle.nas_qos.specs.Applying.{adds_there, all_applied, changed, changed_filters, changed_rule, created, creates_there, deletes_default, deletes_missing, first_not_default, found, is_taken, is_wrong, leaves_none, new_rule, precedence_in, qfi_in, remaining, second_default, sets_default, takes_precedence, wrong_change, wrong_create};
 ghost use Rattle.nas_qos.specs.Reads.{Applies, Changes, KeepsLimits};
 ghost use Rattle.nas_qos.specs.Rules.{IsRules, filters_of};
 

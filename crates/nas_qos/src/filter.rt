@@ -1,9 +1,8 @@
 //! Packet filters.
-ghost use Rattle.std.specs.Prelude.{◌≡◌, ◌≤◌, ◌<◌, [], ◌++◌, length, true, false, nat_eq, nat_le, ◌&&◌, ◌↔◌, IsTrue, IfOk, OnOk};
+ghost use Rattle.std.specs.Prelude.{◌≡◌, ◌≤◌, ◌<◌, [], ◌∷◌, ◌++◌, length, true, false, ◌&&◌, ◌↔◌, IsTrue, IfOk, OnOk};
 ghost use Rattle.std.specs.List.{list_any};
 ghost use Rattle.nas_qos.specs.Applying.{remaining};
-ghost use Rattle.nas_qos.specs.Filters.{differing, filter_octets, filter_size, filters_in, first_filter, ids_differ, is_filter, is_filters, names, whole_filter};
-ghost use Rattle.nas_qos.specs.Operations.{is_directed};
+ghost use Rattle.nas_qos.specs.Filters.{differing, filter_size, filters_in, first_filter, ids_differ, is_filter, is_filters, names, whole_filter};
 ghost use Rattle.nas_qos.specs.Ranges.{are_filters_of, is_filter_of, is_whole};
 ghost use Rattle.nas_qos.specs.Reads.{Finds};
 
@@ -121,22 +120,46 @@ fn same(filters: &[Filter], others: &[Filter]) -> bool
     }
 }
 
+// Appends a copy of the filter. After want of memory the list is of no use.
+fn push_copy(alloc: Global, filter: &Filter, items: &mut Vec<Filter>) -> Result<(), Memory>
+    ensures { OnOk result (items.new.items ≡ items.old.items ++ filter.now ∷ []) }
+{
+    let copy = filter.copy(alloc)?;
+    match items.push(copy) {
+        Ok(()) => Ok(()),
+        Err(_) => Err(Memory),
+    }
+}
+
 // Appends copies of the filters. After want of memory the list is of no use.
 fn append(alloc: Global, filters: &[Filter], items: &mut Vec<Filter>) -> Result<(), Memory>
     ensures { OnOk result (items.new.items ≡ items.old.items ++ filters.now) }
 {
     for filter in filters {
-        let copy = filter.copy(alloc)?;
-        match items.push(copy) {
-            Ok(()) => {}
-            Err(_) => return Err(Memory),
+        push_copy(alloc, filter, items)?;
+    }
+    Ok(())
+}
+
+// Appends copies of the filters but those that have an identifier of these. After want of memory the list is of no use.
+fn append_remaining(
+    alloc: Global,
+    gone: &[Filter],
+    filters: &[Filter],
+    items: &mut Vec<Filter>,
+) -> Result<(), Memory>
+    ensures { OnOk result (items.new.items ≡ items.old.items ++ remaining gone.now filters.now) }
+{
+    for filter in filters {
+        if names(filter.id, gone) {
+            continue;
         }
+        push_copy(alloc, filter, items)?;
     }
     Ok(())
 }
 
 // Filters and others behind them, which have other identifiers.
-#[tactic(auto, using(crate::proofs::RuleFacts::joined_filters))]
 pub(crate) fn joined(alloc: Global, there: &Filters, more: &Filters) -> Result<Filters, Memory>
     requires { list_any (λ f. names f.id there.now) more.now ≡ false }
     ensures { IfOk result (λ filters. filters ≡ there.now ++ more.now) }
@@ -148,7 +171,6 @@ pub(crate) fn joined(alloc: Global, there: &Filters, more: &Filters) -> Result<F
 }
 
 // The filters but those that have an identifier of these.
-#[tactic(auto, using(crate::proofs::RuleFacts::left_filters))]
 pub(crate) fn remaining(
     alloc: Global,
     gone: &[Filter],
@@ -157,15 +179,7 @@ pub(crate) fn remaining(
     ensures { IfOk result (λ left. left ≡ remaining gone.now filters.now) }
 {
     let mut items = Vec::new(alloc);
-    for filter in filters.as_slice() {
-        if !names(filter.id, gone) {
-            let copy = filter.copy(alloc)?;
-            match items.push(copy) {
-                Ok(()) => {}
-                Err(_) => return Err(Memory),
-            }
-        }
-    }
+    append_remaining(alloc, gone, filters.as_slice(), &mut items)?;
     Ok(Filters { items })
 }
 

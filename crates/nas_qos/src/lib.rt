@@ -2,11 +2,9 @@
 //! (TS 24.501 clause 9.11.4.13).
 #![tactic(auto)]
 
-#[cfg(test)]
-mod apply_tests;
 mod applying;
 mod filter;
-mod laws;
+pub mod laws;
 mod operation;
 mod part;
 mod reading;
@@ -18,7 +16,6 @@ mod writing;
 
 pub use crate::applying::apply;
 pub use crate::filter::{Filter, Filters};
-pub use crate::laws::{ops_are_read_back, other_rules_stay, unnamed_rules_stay};
 pub use crate::operation::{RuleOp, RuleOps};
 pub use crate::part::{Part, Parts};
 pub use crate::reading::read_ops;

@@ -1,7 +1,6 @@
 //! Reading lists of operations.
-ghost use Rattle.std.specs.Prelude.{◌≡◌, ◌≤◌, ◌+◌, ◌-◌, ◌&&◌, ◌^◌, ◌<◌, length, true, nat_eq, nat_le, drop, IfSome};
-ghost use Rattle.byteorder.specs.Endian.{big_number};
-ghost use Rattle.nas_qos.specs.Operations.{ends_in_time, first_operation, has_number, is_code, is_there_whole, operation_in, operation_octets, operation_size, ops_in, tail_in, is_tail, tail_octets};
+ghost use Rattle.std.specs.Prelude.{◌≡◌, ◌≤◌, ◌+◌, ◌-◌, ◌&&◌, ◌^◌, ◌<◌, length, true, IfSome};
+ghost use Rattle.nas_qos.specs.Operations.{first_operation, has_number, is_code, is_there_whole, operation_in, operation_size, ops_in, tail_in, is_tail, tail_octets};
 ghost use Rattle.nas_qos.specs.Ranges.{is_operation_at, is_operation_of};
 ghost use Rattle.nas_qos.specs.Reads.{Finds, ReadsOps};
 

@@ -28,7 +28,7 @@ pub enum ApplyRefusal {
 }
 
 // Why a part of an operation was not read.
-#[derive(Clone, Copy, Debug, PartialEq, Eq)]
+#[derive(Clone, Copy)]
 pub(crate) enum Unread {
     Wrong,
     Memory,

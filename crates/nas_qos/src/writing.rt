@@ -3,7 +3,7 @@ ghost use Rattle.std.specs.Prelude.{◌≡◌, ◌≤◌, ◌+◌, ◌∷◌, �
 ghost use Rattle.byteorder.specs.Endian.{big_bytes};
 ghost use Rattle.nas_base.specs.Writing.{Writes};
 ghost use Rattle.nas_qos.specs.Filters.{filter_octets, filters_octets};
-ghost use Rattle.nas_qos.specs.Operations.{contents, first_octet, operation_octets, ops_octets, tail_octets};
+ghost use Rattle.nas_qos.specs.Operations.{contents, first_octet, operation_octets, ops_octets};
 ghost use Rattle.nas_qos.specs.Parts.{part_octets, parts_octets};
 
 use crate::filter::DELETE_FILTERS;

@@ -24,13 +24,14 @@ timers_in d = do
   t3521 ← named keys.T3521 (duration_at 15000 (codes "t3521") d)
   t3522 ← named keys.T3522 (duration_at 6000 (codes "t3522") d)
   t3550 ← named keys.T3550 (duration_at 6000 (codes "t3550") d)
+  t3555 ← named keys.T3555 (duration_at 6000 (codes "t3555") d)
   t3560 ← named keys.T3560 (duration_at 6000 (codes "t3560") d)
   t3580 ← named keys.T3580 (duration_at 16000 (codes "t3580") d)
   t3581 ← named keys.T3581 (duration_at 16000 (codes "t3581") d)
   t3582 ← named keys.T3582 (duration_at 16000 (codes "t3582") d)
   t3591 ← named keys.T3591 (duration_at 16000 (codes "t3591") d)
   t3592 ← named keys.T3592 (duration_at 16000 (codes "t3592") d)
-  Ok (record { t3510 = t3510; t3516 = t3516; t3517 = t3517; t3521 = t3521; t3522 = t3522; t3550 = t3550; t3560 = t3560; t3580 = t3580; t3581 = t3581; t3582 = t3582; t3591 = t3591; t3592 = t3592 })
+  Ok (record { t3510 = t3510; t3516 = t3516; t3517 = t3517; t3521 = t3521; t3522 = t3522; t3550 = t3550; t3555 = t3555; t3560 = t3560; t3580 = t3580; t3581 = t3581; t3582 = t3582; t3591 = t3591; t3592 = t3592 })
 
 -- the durations that a document asks for; where it has no such table, the standard ones
 abbrev pub timers_of : Option Data → Result DurationParts Key

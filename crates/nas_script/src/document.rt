@@ -1,5 +1,5 @@
 //! TOML documents, and what stands under their keys.
-ghost use Rattle.std.specs.Prelude.{◌≡◌, ◌≤◌, true, nat_le, ◌&&◌, map, option_map, IfSome};
+ghost use Rattle.std.specs.Prelude.{◌≡◌, ◌≤◌, true, ◌&&◌, map, option_map, IfSome};
 ghost use Rattle.toml.specs.View.{view};
 ghost use Rattle.nas_script.specs.Document.{between, document_in, entries_at, integer_at, is_table, number_at, table_at, tables_at, text_at};
 ghost use Rattle.nas_script.specs.Reads.{Reads, named};

@@ -3,7 +3,7 @@ ghost use Rattle.std.specs.Prelude.{◌≡◌, ◌++◌, OnOk};
 ghost use Rattle.nas_script.specs.Ends.{amf_text, connection_text, context_text, guti_text, kept_text, ksi_text, mm_text, net_text, others_text, subscriber_text, tmsi_text, ue_text};
 
 use crate::append::append;
-use amf_core::NetView;
+use amf_core::{KeptGuti, NetView};
 use byteorder::{BigEndian, ByteOrder};
 use nas_base::{AmfWord, Memory, MmWord};
 use nas_elements::Guti;
@@ -139,25 +139,25 @@ fn append_ksi(alloc: Global, text: &mut Vec<u8>, context: &Context) -> Result<()
 
 // Appends the 5G-TMSIs that are kept, with a comma between.
 #[tactic(auto, unfolding(crate::specs::Ends::absent_text))]
-fn append_kept(alloc: Global, text: &mut Vec<u8>, gutis: &[Guti]) -> Result<(), Memory>
+fn append_kept(alloc: Global, text: &mut Vec<u8>, gutis: &[KeptGuti]) -> Result<(), Memory>
     ensures { OnOk result (text.new.items ≡ text.old.items ++ kept_text gutis.now) }
 {
     match gutis {
         [] => append(text, b"-"),
         [first, others @ ..] => {
-            append_tmsi(alloc, text, first)?;
+            append_tmsi(alloc, text, &first.guti)?;
             append_others(alloc, text, others)
         }
     }
 }
 
 // Appends further 5G-TMSIs, each behind a comma.
-fn append_others(alloc: Global, text: &mut Vec<u8>, gutis: &[Guti]) -> Result<(), Memory>
+fn append_others(alloc: Global, text: &mut Vec<u8>, gutis: &[KeptGuti]) -> Result<(), Memory>
     ensures { OnOk result (text.new.items ≡ text.old.items ++ others_text gutis.now) }
 {
-    for guti in gutis {
+    for kept in gutis {
         append(text, b",")?;
-        append_tmsi(alloc, text, guti)?;
+        append_tmsi(alloc, text, &kept.guti)?;
     }
     Ok(())
 }

@@ -4,7 +4,7 @@ ghost use Rattle.std.specs.Option.{option_and_then};
 ghost use Rattle.nas_script.specs.Lines.{all_ascii, is_event};
 ghost use Rattle.nas_script.specs.Events.{behind, command_in, delivery_in, event_in, injection_in, plain_in, random_in, tick_in};
 ghost use Rattle.nas_script.specs.Numbers.{count_in, moment_in};
-ghost use Rattle.nas_script.specs.Octets.{message_in, octets_in};
+ghost use Rattle.nas_script.specs.Octets.{message_in};
 ghost use Rattle.nas_script.specs.Script.{said_by};
 
 use crate::numbers::{count_of, moment_of};

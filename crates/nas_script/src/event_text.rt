@@ -1,5 +1,5 @@
 //! The lines of one event.
-ghost use Rattle.std.specs.Prelude.{◌≡◌, ◌+◌, ◌^◌, ◌<◌, ◌≤◌, ◌++◌, length, drop, OnOk, IfOk};
+ghost use Rattle.std.specs.Prelude.{◌≡◌, ◌+◌, ◌<◌, ◌≤◌, ◌++◌, length, drop, OnOk};
 ghost use Rattle.nas_world.specs.Agree.{agree};
 ghost use Rattle.nas_world.specs.State.{honest};
 ghost use Rattle.nas_script.specs.Transcript.{end_text, event_text, line_text, nothing_text, refusal_text, refused_text, sent_text, sents_text, verdict_text, word_of, world_text};

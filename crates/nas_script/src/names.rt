@@ -44,7 +44,7 @@ fn read_names(alloc: Global, entries: &[Value]) -> Result<Option<Dnns>, Memory>
             return Err(Memory);
         }
     }
-    Ok(Dnns::of(items))
+    Ok(Dnns::from_items(items))
 }
 
 // The name of an entry.

@@ -1,5 +1,5 @@
 //! The transcript.
-ghost use Rattle.std.specs.Prelude.{◌≡◌, ◌+◌, ◌≤◌, ◌<◌, length, OnOk};
+ghost use Rattle.std.specs.Prelude.{◌≡◌, ◌+◌, ◌<◌, length, OnOk};
 ghost use Rattle.nas_base.specs.Outside.{Tells};
 ghost use Rattle.nas_world.specs.Events.{step_of};
 ghost use Rattle.nas_script.specs.Fault.{is_output};

@@ -42,6 +42,7 @@ fn read_timers(table: &Value) -> Result<Durations, ConfigRefusal>
     let t3521 = needed(Key::T3521, duration_of(15_000, "t3521", table))?;
     let t3522 = needed(Key::T3522, duration_of(6_000, "t3522", table))?;
     let t3550 = needed(Key::T3550, duration_of(6_000, "t3550", table))?;
+    let t3555 = needed(Key::T3555, duration_of(6_000, "t3555", table))?;
     let t3560 = needed(Key::T3560, duration_of(6_000, "t3560", table))?;
     let t3580 = needed(Key::T3580, duration_of(16_000, "t3580", table))?;
     let t3581 = needed(Key::T3581, duration_of(16_000, "t3581", table))?;
@@ -55,6 +56,7 @@ fn read_timers(table: &Value) -> Result<Durations, ConfigRefusal>
         t3521,
         t3522,
         t3550,
+        t3555,
         t3560,
         t3580,
         t3581,

@@ -4,7 +4,7 @@ use Rattle.std.proofs.Math.Path.{ap₂}
 use Rattle.std.proofs.lemmas.List.{length-append, take_at, drop_at, drop-drop, get_or-append_right, take-append-drop, drop_more}
 use Rattle.nas_base.specs.declared.count.Dir.{Dir}
 use Rattle.aes_cmac.specs.Nas.{nea2, nia2}
-use Rattle.aes_cmac.proofs.Laws.{length-nea2, length-nia2, nea2-nea2}
+use Rattle.aes_cmac.proofs.AlgorithmLaws.{length-nea2, length-nia2, nea2-nea2}
 use Rattle.nas_security.specs.Contexts.{SecurityContext}
 use Rattle.nas_security.specs.Counts.{low_octet}
 use Rattle.nas_security.specs.Frame.{as_sent, covered, frame, is_ciphered}

@@ -9,7 +9,7 @@ mod challenges;
 mod contexts;
 mod counts;
 mod frames;
-mod laws;
+pub mod laws;
 mod sends;
 mod verdicts;
 
@@ -17,10 +17,6 @@ pub use crate::challenges::Challenge;
 pub use crate::contexts::Context;
 pub use crate::counts::accept;
 pub use crate::frames::{Spent, protect};
-pub use crate::laws::{
-    accepted_once, estimate_is_least, one_message, passed_where_passing, protected_passes,
-    verdicts_have_causes,
-};
 pub use crate::sends::{Pass, Send, Sends};
 pub use crate::verdicts::{Verdict, unprotect};
 

@@ -1,5 +1,5 @@
 //! The check of octets that came in (TS 24.501 clause 4.4.4).
-ghost use Rattle.std.specs.Prelude.{◌≡◌, ◌≤◌, [], ◌++◌, length};
+ghost use Rattle.std.specs.Prelude.{◌≡◌, ◌≤◌, [], length};
 ghost use Rattle.nas_security.specs.Frame.{as_sent};
 ghost use Rattle.nas_security.specs.Passing.{estimated, judged};
 

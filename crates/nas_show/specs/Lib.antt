@@ -1,5 +1,3 @@
+pub mod Laws
 pub mod Lines
-pub mod Pieces
-pub mod SessionLines
-pub mod SessionPieces
 pub mod Shown

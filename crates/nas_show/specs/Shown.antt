@@ -4,23 +4,26 @@ use Rattle.std.specs.Fmt.{decimal}
 use Rattle.hex.specs.Hex.{encode_lower}
 use Rattle.nas_base.specs.Kinds.{mm_type, sm_type}
 use Rattle.mm_messages.specs.KindOf.{kind_of}
-use Rattle.mm_messages.specs.Messages.{mm_in}
+use Rattle.mm_messages.specs.Messages.{mm_in, pieces_of}
 use Rattle.mm_messages.specs.declared.message.Mm.{Mm}
 use Rattle.mm_messages.specs.declared.message.MmRefusal.{MmRefusal}
 use Rattle.mm_messages.specs.declared.message.MmRefusal.TheVariants.{Ignored, UnknownType, Mandatory, Memory}
 use Rattle.sm_messages.specs.KindOf as sm
 use Rattle.sm_messages.specs.Messages.{sm_in}
+use Rattle.sm_messages.specs.Messages as sessions
 use Rattle.sm_messages.specs.declared.message.SmFrame.{SmFrame}
 use Rattle.sm_messages.specs.declared.message.SmRefusal.{SmRefusal}
 use Rattle.sm_messages.specs.declared.message.SmRefusal.TheVariants as refused
 use Rattle.nas_show.specs.Lines.{lines}
-use Rattle.nas_show.specs.SessionLines.{session_lines}
 use Rattle.nas_show.specs.declared.showing.ShowRefusal.{ShowRefusal}
 use Rattle.nas_show.specs.declared.showing.ShowRefusal.TheVariants as refusals
 
 -- a plain message: its type, and its lines
+unfoldable pub message_head : ℕ → List ℕ
+message_head kind = codes "5gmm " ++ (encode_lower (kind ∷ []) ++ codes "\n")
+
 unfoldable pub message_text : Mm → List ℕ
-message_text message = codes "5gmm " ++ (encode_lower (mm_type (kind_of message) ∷ []) ++ (codes "\n" ++ lines message))
+message_text message = message_head (mm_type (kind_of message)) ++ lines (pieces_of message)
 
 -- a protected frame: its header type, the MAC of four octets, and the sequence number (TS 24.501 clause 9.1.1)
 unfoldable pub frame_text : List ℕ → List ℕ
@@ -35,7 +38,7 @@ session_head kind psi pti =
     codes "5gsm " ++ (encode_lower (kind ∷ []) ++ (codes " psi " ++ (decimal psi ++ (codes " pti " ++ (decimal pti ++ codes "\n")))))
 
 unfoldable pub session_text : SmFrame → List ℕ
-session_text frame = session_head (sm_type (sm.kind_of frame.body)) frame.psi frame.pti ++ session_lines frame.body
+session_text frame = session_head (sm_type (sm.kind_of frame.body)) frame.psi frame.pti ++ lines (sessions.pieces_of frame.body)
 
 -- the place where octets are no plain message: that of the type where the type is unknown
 abbrev pub plain : Result Mm MmRefusal → Result (List ℕ) ℕ

@@ -1,162 +1,170 @@
-//! The lines of each message.
-ghost use Rattle.std.specs.Prelude.{◌≡◌, ◌++◌, OnOk};
-ghost use Rattle.mm_messages.specs.Parts.{deregistration_code, registration_type_code};
-ghost use Rattle.nas_show.specs.Lines.{lines};
+//! The lines of a message, which is told piece by piece.
+ghost use Rattle.std.specs.Prelude.{◌≡◌, ◌++◌, length, take, true, IfOk, OnOk};
+ghost use Rattle.nas_layout.specs.Pieces.{framed, is_room_in};
+ghost use Rattle.nas_show.specs.Lines.{element_text, half_text, part_text, text_by_form};
 
-use crate::pieces::{
-    append_counted, append_element, append_half, append_identity, append_long, append_octets,
-    append_part,
-};
-use mm_messages::{Mm, RegistrationType};
-use nas_base::Memory;
-use nas_layout::{Half, two_halves};
+use byteorder::{BigEndian, ByteOrder};
+use nas_base::{Form, Memory};
+use nas_layout::{Frame, Pieces};
 use std::alloc::Global;
+use std::marker::Model;
 
-// A follow-on request is pending: bit 4 beside the registration type.
-const FOLLOW_ON: u8 = 8;
+/// A text that grows by the line of each piece that it is told.
+#[derive(Drop)]
+pub struct Lines {
+    alloc: Global,
+    text: Vec<u8>,
+}
 
-/// Appends the lines of a message: its parts, and the elements that are there.
-#[tactic(auto, unfolding(crate::specs::Lines::lines, crate::specs::Lines::indication_label, crate::specs::Lines::request_type_label))]
-pub fn append_lines(alloc: Global, text: &mut Vec<u8>, message: &Mm) -> Result<(), Memory>
-    ensures { OnOk result (text.new.items ≡ text.old.items ++ lines message.now) }
-{
-    match message {
-        Mm::RegistrationRequest {
-            registration,
-            ksi,
-            identity,
-            capability,
-            status,
-        } => {
-            append_part(
-                alloc,
-                text,
-                &[two_halves(Half(registration.code() + FOLLOW_ON), Half(ksi.0))],
-            )?;
-            append_identity(alloc, text, identity)?;
-            append_element(alloc, text, 0x2e, capability)?;
-            append_element(alloc, text, 0x50, status)
-        }
-        Mm::RegistrationAccept {
-            result,
-            guti,
-            tai_list,
-            nssai,
-            status,
-            t3512,
-        } => {
-            append_part(alloc, text, &[1, *result])?;
-            append_element(alloc, text, 0x77, guti)?;
-            append_element(alloc, text, 0x54, tai_list)?;
-            append_element(alloc, text, 0x15, nssai)?;
-            append_element(alloc, text, 0x50, status)?;
-            append_element(alloc, text, 0x5e, t3512)
-        }
-        Mm::RegistrationReject { cause } => { append_part(alloc, text, &[*cause]) }
-        Mm::DeregistrationRequestUeOriginating {
-            switch_off,
-            ksi,
-            identity,
-        } => {
-            append_part(
-                alloc,
-                text,
-                &[two_halves(Half(deregistration_code(*switch_off)), Half(ksi.0))],
-            )?;
-            append_identity(alloc, text, identity)
-        }
-        Mm::DeregistrationRequestUeTerminated { switch_off, cause } => {
-            append_part(alloc, text, &[deregistration_code(*switch_off)])?;
-            append_element(alloc, text, 0x58, cause)
-        }
-        Mm::ServiceRequest {
-            ksi,
-            service_type,
-            identity,
-            status,
-        } => {
-            append_part(alloc, text, &[two_halves(Half(ksi.0), *service_type)])?;
-            append_identity(alloc, text, identity)?;
-            append_element(alloc, text, 0x50, status)
-        }
-        Mm::ServiceReject { cause, status } => {
-            append_part(alloc, text, &[*cause])?;
-            append_element(alloc, text, 0x50, status)
-        }
-        Mm::ServiceAccept { status } => { append_element(alloc, text, 0x50, status) }
-        Mm::ConfigurationUpdateCommand { indication, guti } => {
-            append_half(alloc, text, "d", indication)?;
-            append_element(alloc, text, 0x77, guti)
-        }
-        Mm::AuthenticationRequest {
-            ksi,
-            abba,
-            rand,
-            autn,
-        } => {
-            append_part(alloc, text, &[ksi.0])?;
-            append_counted(alloc, text, abba)?;
-            append_element(alloc, text, 0x21, rand)?;
-            append_element(alloc, text, 0x20, autn)
-        }
-        Mm::AuthenticationResponse { res_star } => { append_element(alloc, text, 0x2d, res_star) }
-        Mm::AuthenticationFailure { cause, auts } => {
-            append_part(alloc, text, &[*cause])?;
-            append_element(alloc, text, 0x30, auts)
-        }
-        Mm::IdentityRequest { identity_type } => { append_part(alloc, text, &[identity_type.0]) }
-        Mm::IdentityResponse { identity } => { append_identity(alloc, text, identity) }
-        Mm::SecurityModeCommand {
-            algs,
-            ksi,
-            capability,
-            asi,
-        } => {
-            append_part(alloc, text, &[16 * algs.nea + algs.nia])?;
-            append_part(alloc, text, &[ksi.0])?;
-            append_counted(alloc, text, capability)?;
-            append_element(alloc, text, 0x36, asi)
-        }
-        Mm::SecurityModeComplete { message } => { append_octets(alloc, text, 0x71, message) }
-        Mm::SecurityModeReject { cause } => { append_part(alloc, text, &[*cause]) }
-        Mm::FiveGmmStatus { cause } => { append_part(alloc, text, &[*cause]) }
-        Mm::UlNasTransport {
-            container_type,
-            container,
-            psi,
-            request_type,
-            slice,
-            dnn,
-        } => {
-            append_part(alloc, text, &[container_type.0])?;
-            append_long(alloc, text, container.as_slice())?;
-            append_element(alloc, text, 0x12, psi)?;
-            append_half(alloc, text, "8", request_type)?;
-            append_element(alloc, text, 0x22, slice)?;
-            append_element(alloc, text, 0x25, dnn)
-        }
-        Mm::DlNasTransport {
-            container_type,
-            container,
-            psi,
-            cause,
-        } => {
-            append_part(alloc, text, &[container_type.0])?;
-            append_long(alloc, text, container.as_slice())?;
-            append_element(alloc, text, 0x12, psi)?;
-            append_element(alloc, text, 0x58, cause)
-        }
-        Mm::RegistrationComplete
-        | Mm::DeregistrationAcceptUeOriginating
-        | Mm::DeregistrationAcceptUeTerminated
-        | Mm::ConfigurationUpdateComplete
-        | Mm::AuthenticationReject => Ok(()),
+impl Model for Lines {
+    ghost use Rattle.std.specs.Prelude.{ℕ, List};
+
+    ghost Value = { List ℕ };
+
+    ghost view = { λ l. l.text.items };
+}
+
+impl Lines {
+    /// Lines behind this text.
+    pub fn new(alloc: Global, text: Vec<u8>) -> Lines
+        ensures { result ≡ text.items }
+    {
+        Lines { alloc, text }
+    }
+
+    /// The text with the lines.
+    pub fn into_text(self) -> Vec<u8>
+        ensures { result.items ≡ self }
+    {
+        self.text
     }
 }
 
-// The de-registration type, over 3GPP access.
-fn deregistration_code(switch_off: bool) -> u8
-    ensures { result ≡ deregistration_code switch_off }
+impl Pieces for Lines {
+    ghost use Rattle.std.specs.Prelude.{ℕ, List};
+    ghost use Rattle.nas_layout.specs.Pieces.{Piece};
+    ghost use Rattle.nas_show.specs.Lines.{with_line};
+
+    type Refusal = Memory;
+
+    ghost with_piece = { with_line };
+
+    ghost refuses = { λ _ _. Unit {0} };
+
+    fn mandatory(&mut self, frame: Frame, octets: &[u8]) -> Result<(), Memory> {
+        let part = framed(self.alloc, frame, octets)?;
+        append_part(self.alloc, &mut self.text, part.as_slice())
+    }
+
+    fn optional(&mut self, iei: u8, form: Form, octets: Option<&[u8]>) -> Result<(), Memory> {
+        match octets {
+            None => Ok(()),
+            Some(octets) => append_by_form(self.alloc, &mut self.text, iei, form, octets),
+        }
+    }
+}
+
+/// Appends octets to a text.
+pub fn append(text: &mut Vec<u8>, octets: &[u8]) -> Result<(), Memory>
+    ensures { OnOk result (text.new.items ≡ text.old.items ++ octets.now) }
 {
-    if switch_off { 9 } else { 1 }
+    match text.extend_from_slice(octets) {
+        Ok(()) => Ok(()),
+        Err(_) => Err(Memory),
+    }
+}
+
+// A part with its length.
+fn framed(alloc: Global, frame: Frame, octets: &[u8]) -> Result<Vec<u8>, Memory>
+    requires { is_room_in frame (length octets.now) ≡ true }
+    ensures { IfOk result (λ part. part.items ≡ framed frame octets.now) }
+{
+    let mut part = Vec::new(alloc);
+    match frame {
+        Frame::V(_) => {}
+        Frame::Lv => append(&mut part, &[octets.len() as u8])?,
+        Frame::Lve => {
+            let mut size = [0; 2];
+            BigEndian::write_u16(&mut size, octets.len() as u16);
+            append(&mut part, &size)?;
+        }
+    }
+    append(&mut part, octets)?;
+    Ok(part)
+}
+
+// Appends the line of a part.
+#[tactic(auto, unfolding(crate::specs::Lines::part_text))]
+fn append_part(alloc: Global, text: &mut Vec<u8>, octets: &[u8]) -> Result<(), Memory>
+    ensures { OnOk result (text.new.items ≡ text.old.items ++ part_text octets.now) }
+{
+    let Ok(hex) = hex::encode(alloc, octets) else {
+        return Err(Memory);
+    };
+    let Ok(line) = format!(in alloc; "  m {hex}\n") else {
+        return Err(Memory);
+    };
+    append(text, line.as_bytes())
+}
+
+// Appends the line of an element that is there.
+fn append_by_form(
+    alloc: Global,
+    text: &mut Vec<u8>,
+    iei: u8,
+    form: Form,
+    octets: &[u8],
+) -> Result<(), Memory>
+    ensures { OnOk result (text.new.items ≡ text.old.items ++ text_by_form iei form octets.now) }
+{
+    match form {
+        Form::Half => append_half(alloc, text, iei, octets),
+        _ => append_element(alloc, text, iei, octets),
+    }
+}
+
+// Appends the line of an element with its identifier.
+#[tactic(auto, unfolding(crate::specs::Lines::element_text))]
+fn append_element(alloc: Global, text: &mut Vec<u8>, iei: u8, octets: &[u8]) -> Result<(), Memory>
+    ensures { OnOk result (text.new.items ≡ text.old.items ++ element_text iei octets.now) }
+{
+    let Ok(label) = hex::encode(alloc, [iei]) else {
+        return Err(Memory);
+    };
+    let Ok(hex) = hex::encode(alloc, octets) else {
+        return Err(Memory);
+    };
+    let Ok(line) = format!(in alloc; "  {label} {hex}\n") else {
+        return Err(Memory);
+    };
+    append(text, line.as_bytes())
+}
+
+// Appends the line of an element of one octet.
+#[tactic(auto, unfolding(crate::specs::Lines::half_text))]
+fn append_half(alloc: Global, text: &mut Vec<u8>, iei: u8, octets: &[u8]) -> Result<(), Memory>
+    ensures { OnOk result (text.new.items ≡ text.old.items ++ half_text iei octets.now) }
+{
+    let half = octets.first().copied().unwrap_or(0) % 16;
+    let Ok(label) = hex::encode(alloc, [iei]) else {
+        return Err(Memory);
+    };
+    let Ok(hex) = hex::encode(alloc, [half]) else {
+        return Err(Memory);
+    };
+    append(text, b"  ")?;
+    append(text, first_of(label.as_bytes()))?;
+    append(text, b" ")?;
+    append(text, hex.as_bytes())?;
+    append(text, b"\n")
+}
+
+// The first octet alone, where there is one.
+fn first_of(octets: &[u8]) -> &[u8]
+    ensures { result.now ≡ take 1 octets.now }
+{
+    match octets.get(..1) {
+        Some(first) => first,
+        None => &[],
+    }
 }

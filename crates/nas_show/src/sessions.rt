@@ -4,10 +4,9 @@ ghost use Rattle.nas_show.specs.Shown.{Shows, session, session_head, session_tex
 ghost use Rattle.sm_messages.specs.Messages.{sm_in};
 
 use crate::ShowRefusal;
-use crate::pieces::append;
-use crate::session_lines::append_session_lines;
+use crate::lines::{Lines, append};
 use nas_base::Memory;
-use sm_messages::{SmFrame, SmRefusal, decode_sm, kind_of};
+use sm_messages::{SmFrame, SmRefusal, decode_sm, kind_of, tell};
 use std::alloc::Global;
 
 /// A 5GSM message.
@@ -27,15 +26,16 @@ pub fn show_session(alloc: Global, octets: &[u8]) -> Result<Vec<u8>, ShowRefusal
 }
 
 // Its type, its two identities, and its lines.
-#[tactic(auto, unfolding(crate::specs::Shown::session_text))]
+#[tactic(auto, using(crate::proofs::LinesTold::lines_told), unfolding(crate::specs::Shown::session_text))]
 fn session_text_of(alloc: Global, frame: &SmFrame) -> Result<Vec<u8>, Memory>
     ensures { IfOk result (λ text. text.items ≡ session_text frame.now) }
 {
     let mut text = Vec::new(alloc);
     let kind = kind_of(&frame.body).code();
     append_session_head(alloc, &mut text, kind, frame.psi, frame.pti)?;
-    append_session_lines(alloc, &mut text, &frame.body)?;
-    Ok(text)
+    let mut lines = Lines::new(alloc, text);
+    tell(&frame.body, &mut lines)?;
+    Ok(lines.into_text())
 }
 
 // The line of its head.

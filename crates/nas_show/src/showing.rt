@@ -1,12 +1,11 @@
 //! Octets as text.
 ghost use Rattle.std.specs.Prelude.{◌≡◌, ◌≤◌, IfOk, length};
 ghost use Rattle.mm_messages.specs.Messages.{mm_in};
-ghost use Rattle.nas_show.specs.Shown.{Shows, frame_text, message_text, plain, shown};
+ghost use Rattle.nas_show.specs.Shown.{Shows, frame_text, message_head, message_text, plain, shown};
 
-use crate::lines::append_lines;
-use crate::pieces::append;
+use crate::lines::{Lines, append};
 use crate::sessions::show_session;
-use mm_messages::{Mm, MmRefusal, decode_mm, kind_of};
+use mm_messages::{Mm, MmRefusal, decode_mm, kind_of, tell};
 use nas_base::Memory;
 use std::alloc::Global;
 
@@ -71,18 +70,28 @@ fn show_plain(alloc: Global, octets: &[u8]) -> Result<Vec<u8>, ShowRefusal>
 }
 
 // Its type, and its lines.
-#[tactic(auto, unfolding(crate::specs::Shown::message_text))]
+#[tactic(auto, using(crate::proofs::LinesTold::lines_told), unfolding(crate::specs::Shown::message_text))]
 fn message_text_of(alloc: Global, message: &Mm) -> Result<Vec<u8>, Memory>
     ensures { IfOk result (λ text. text.items ≡ message_text message.now) }
 {
-    let Ok(code) = hex::encode(alloc, [kind_of(message).code()]) else {
+    let mut lines = Lines::new(alloc, message_head(alloc, kind_of(message).code())?);
+    tell(message, &mut lines)?;
+    Ok(lines.into_text())
+}
+
+// The line of its type.
+#[tactic(auto, unfolding(crate::specs::Shown::message_head))]
+fn message_head(alloc: Global, kind: u8) -> Result<Vec<u8>, Memory>
+    ensures { IfOk result (λ text. text.items ≡ message_head kind) }
+{
+    let Ok(code) = hex::encode(alloc, [kind]) else {
+        return Err(Memory);
+    };
+    let Ok(line) = format!(in alloc; "5gmm {code}\n") else {
         return Err(Memory);
     };
     let mut text = Vec::new(alloc);
-    append(&mut text, b"5gmm ")?;
-    append(&mut text, code.as_bytes())?;
-    append(&mut text, b"\n")?;
-    append_lines(alloc, &mut text, message)?;
+    append(&mut text, line.as_bytes())?;
     Ok(text)
 }
 

@@ -1,10 +1,11 @@
--- The order of names is strict and total, and there are 82 names.
-use Rattle.std.proofs.Common.{◌≡◌, ◌∙◌, ◌≢◌, ◌<◌, ◌≤◌, ◌+◌, ℕ, ◌==◌, true, false, cond, arith, refl, ap, sym}
+-- The order of names is strict and total, and there are as many as `NAMES` says.
+use Rattle.std.proofs.Common.{◌≡◌, ◌∙◌, ◌≢◌, ◌<◌, ◌+◌, ℕ, ◌==◌, true, false, cond, arith, refl, ap, sym}
 use Rattle.std.proofs.lemmas.Bool.{and_from, and_parts, eq-eqb, eqb-true, false_from_ne_true}
 use Rattle.std.proofs.lemmas.Bool.Decides.{nat_tests}
+use Rattle.nas_timers.specs.declared.timer_id.TheConstants.{NAMES}
 use Rattle.nas_timers.specs.Names.{is_before, is_name, number_of, same_name, session_of}
 use Rattle.nas_timers.specs.declared.timer_id.TimerId.{TimerId}
-use Rattle.nas_timers.specs.declared.timer_id.TimerId.TheVariants.{T3510, T3516, T3517, T3521, T3522, T3550, T3560, T3580, T3581, T3582, T3591, T3592}
+use Rattle.nas_timers.specs.declared.timer_id.TimerId.TheVariants.{T3510, T3516, T3517, T3521, T3522, T3550, T3555, T3560, T3580, T3581, T3582, T3591, T3592}
 
 -- names of one number and one session are equal
 name_with : ℕ → ℕ → TimerId
@@ -15,12 +16,13 @@ name_with number psi =
     (cond (number == 3521) T3521
     (cond (number == 3522) T3522
     (cond (number == 3550) T3550
+    (cond (number == 3555) T3555
     (cond (number == 3560) T3560
     (cond (number == 3580) (T3580 psi)
     (cond (number == 3581) (T3581 psi)
     (cond (number == 3582) (T3582 psi)
     (cond (number == 3591) (T3591 psi)
-    (T3592 psi)))))))))))
+    (T3592 psi))))))))))))
 
 named_back : (id : TimerId) → name_with (number_of id) (session_of id) ≡ id
 unfolding name_with
@@ -30,6 +32,7 @@ named_back T3517 = refl
 named_back T3521 = refl
 named_back T3522 = refl
 named_back T3550 = refl
+named_back T3555 = refl
 named_back T3560 = refl
 named_back (T3580 psi) = refl
 named_back (T3581 psi) = refl
@@ -73,14 +76,15 @@ place T3517 = 2
 place T3521 = 3
 place T3522 = 4
 place T3550 = 5
-place T3560 = 6
-place (T3580 psi) = 6 + psi
-place (T3581 psi) = 21 + psi
-place (T3582 psi) = 36 + psi
-place (T3591 psi) = 51 + psi
-place (T3592 psi) = 66 + psi
+place T3555 = 6
+place T3560 = 7
+place (T3580 psi) = 7 + psi
+place (T3581 psi) = 22 + psi
+place (T3582 psi) = 37 + psi
+place (T3591 psi) = 52 + psi
+place (T3592 psi) = 67 + psi
 
-pub place_limit : (id : TimerId) → is_name id ≡ true → place id ≤ 81
+pub place_limit : (id : TimerId) → is_name id ≡ true → place id < NAMES
 unfolding place
 place_limit T3510 h = omega arith
 place_limit T3516 h = omega arith
@@ -88,6 +92,7 @@ place_limit T3517 h = omega arith
 place_limit T3521 h = omega arith
 place_limit T3522 h = omega arith
 place_limit T3550 h = omega arith
+place_limit T3555 h = omega arith
 place_limit T3560 h = omega arith
 place_limit (T3580 psi) h = grind (arith, nat_tests)
 place_limit (T3581 psi) h = grind (arith, nat_tests)
@@ -109,6 +114,8 @@ places_rise T3522 T3522 named other h = grind (arith, nat_tests)
 places_rise T3522 _ named other h = grind (arith, nat_tests)
 places_rise T3550 T3550 named other h = grind (arith, nat_tests)
 places_rise T3550 _ named other h = grind (arith, nat_tests)
+places_rise T3555 T3555 named other h = grind (arith, nat_tests)
+places_rise T3555 _ named other h = grind (arith, nat_tests)
 places_rise T3560 T3560 named other h = grind (arith, nat_tests)
 places_rise T3560 _ named other h = grind (arith, nat_tests)
 places_rise (T3580 psi) (T3580 q) named other h = grind (arith, nat_tests)

@@ -1,7 +1,8 @@
 -- A list of timers stays one when a name is started or stopped.
-use Rattle.std.proofs.Common.{◌≡◌, ◌≤◌, ◌+◌, ℕ, Bool, true, false, List, [], ◌∷◌, length, arith, refl, ap, subst}
+use Rattle.std.proofs.Common.{◌≡◌, ◌<◌, ◌≤◌, ◌+◌, ℕ, Bool, true, false, List, [], ◌∷◌, length, arith, refl, ap, subst}
 use Rattle.std.proofs.lemmas.Bool.{and_from, and_parts}
 use Rattle.std.specs.Prelude.{◌&&◌}
+use Rattle.nas_timers.specs.declared.timer_id.TheConstants.{NAMES}
 use Rattle.nas_timers.specs.Names.{is_before, is_name, same_name}
 use Rattle.nas_timers.specs.Timers.{Running, all_behind, are_timers, started, stopped}
 use Rattle.nas_timers.specs.declared.timer_id.TimerId.{TimerId}
@@ -94,13 +95,13 @@ timers_started id at (t ∷ ts) named h =
     timers_started_by id at t ts (is_before t.id id) refl named h (timers_started id at ts named (parts t ts h).2)
 
 -- there are no more timers than names
-counted_behind : (id : TimerId) (ts : List Running) → is_name id ≡ true → all_behind id ts ≡ true → are_timers ts ≡ true → place id + length ts ≤ 81
+counted_behind : (id : TimerId) (ts : List Running) → is_name id ≡ true → all_behind id ts ≡ true → are_timers ts ≡ true → place id + length ts < NAMES
 counted_behind id [] named behind h = let limit = place_limit id named in omega arith
 counted_behind id (t ∷ ts) named behind h =
     let p = parts t ts h in
     let q = and_parts (is_before id t.id) (all_behind id ts) behind in
     let rises = places_rise id t.id named p.0 q.0 in let rest = counted_behind t.id ts p.0 p.1 p.2 in omega arith
 
-pub counted : (ts : List Running) → are_timers ts ≡ true → length ts ≤ 82
+pub counted : (ts : List Running) → are_timers ts ≡ true → length ts ≤ NAMES
 counted [] h = omega arith
 counted (t ∷ ts) h = let p = parts t ts h in let rest = counted_behind t.id ts p.0 p.1 p.2 in omega arith

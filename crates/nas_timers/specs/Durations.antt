@@ -2,7 +2,7 @@
 use Rattle.std.specs.Prelude.{ℕ, ◌+◌, Bool, nat_le, ◌&&◌, min}
 use Rattle.nas_base.specs.Values.{last_moment}
 use Rattle.nas_timers.specs.declared.timer_id.TimerId.{TimerId}
-use Rattle.nas_timers.specs.declared.timer_id.TimerId.TheVariants.{T3510, T3516, T3517, T3521, T3522, T3550, T3560, T3580, T3581, T3582, T3591, T3592}
+use Rattle.nas_timers.specs.declared.timer_id.TimerId.TheVariants.{T3510, T3516, T3517, T3521, T3522, T3550, T3555, T3560, T3580, T3581, T3582, T3591, T3592}
 
 -- a duration for each number of a timer
 pub record DurationParts : Type 0 where
@@ -12,6 +12,7 @@ pub record DurationParts : Type 0 where
   pub t3521 : ℕ
   pub t3522 : ℕ
   pub t3550 : ℕ
+  pub t3555 : ℕ
   pub t3560 : ℕ
   pub t3580 : ℕ
   pub t3581 : ℕ
@@ -25,7 +26,7 @@ is_duration ms = nat_le 1 ms && nat_le ms 86400000
 
 abbrev pub are_durations : DurationParts → Bool
 are_durations d =
-    is_duration d.t3510 && is_duration d.t3516 && is_duration d.t3517 && is_duration d.t3521 && is_duration d.t3522 && is_duration d.t3550 && is_duration d.t3560
+    is_duration d.t3510 && is_duration d.t3516 && is_duration d.t3517 && is_duration d.t3521 && is_duration d.t3522 && is_duration d.t3550 && is_duration d.t3555 && is_duration d.t3560
     && is_duration d.t3580 && is_duration d.t3581 && is_duration d.t3582 && is_duration d.t3591 && is_duration d.t3592
 
 -- the duration of a timer
@@ -36,6 +37,7 @@ duration_of T3517 d = d.t3517
 duration_of T3521 d = d.t3521
 duration_of T3522 d = d.t3522
 duration_of T3550 d = d.t3550
+duration_of T3555 d = d.t3555
 duration_of T3560 d = d.t3560
 duration_of (T3580 psi) d = d.t3580
 duration_of (T3581 psi) d = d.t3581
@@ -52,6 +54,7 @@ standard_durations = record {
   t3521 = 15000;
   t3522 = 6000;
   t3550 = 6000;
+  t3555 = 6000;
   t3560 = 6000;
   t3580 = 16000;
   t3581 = 16000;

@@ -2,7 +2,7 @@
 use Rattle.std.specs.Prelude.{ℕ, Bool, true, nat_lt, ◌==◌, ◌&&◌, ◌||◌}
 use Rattle.nas_base.specs.Values.{is_psi}
 use Rattle.nas_timers.specs.declared.timer_id.TimerId.{TimerId}
-use Rattle.nas_timers.specs.declared.timer_id.TimerId.TheVariants.{T3510, T3516, T3517, T3521, T3522, T3550, T3560, T3580, T3581, T3582, T3591, T3592}
+use Rattle.nas_timers.specs.declared.timer_id.TimerId.TheVariants.{T3510, T3516, T3517, T3521, T3522, T3550, T3555, T3560, T3580, T3581, T3582, T3591, T3592}
 
 -- the number that a timer is called by
 abbrev pub number_of : TimerId → ℕ
@@ -12,6 +12,7 @@ number_of T3517 = 3517
 number_of T3521 = 3521
 number_of T3522 = 3522
 number_of T3550 = 3550
+number_of T3555 = 3555
 number_of T3560 = 3560
 number_of (T3580 psi) = 3580
 number_of (T3581 psi) = 3581
@@ -27,6 +28,7 @@ session_of T3517 = 0
 session_of T3521 = 0
 session_of T3522 = 0
 session_of T3550 = 0
+session_of T3555 = 0
 session_of T3560 = 0
 session_of (T3580 psi) = psi
 session_of (T3581 psi) = psi
@@ -42,6 +44,7 @@ is_name T3517 = true
 is_name T3521 = true
 is_name T3522 = true
 is_name T3550 = true
+is_name T3555 = true
 is_name T3560 = true
 is_name (T3580 psi) = is_psi psi
 is_name (T3581 psi) = is_psi psi

@@ -16,6 +16,7 @@ pub struct Durations {
     pub t3521: Moment,
     pub t3522: Moment,
     pub t3550: Moment,
+    pub t3555: Moment,
     pub t3560: Moment,
     pub t3580: Moment,
     pub t3581: Moment,
@@ -30,11 +31,11 @@ impl Model for Durations {
 
     ghost Value = { DurationParts };
 
-    ghost view = { λ d. record { t3510 = d.t3510; t3516 = d.t3516; t3517 = d.t3517; t3521 = d.t3521; t3522 = d.t3522; t3550 = d.t3550; t3560 = d.t3560; t3580 = d.t3580; t3581 = d.t3581; t3582 = d.t3582; t3591 = d.t3591; t3592 = d.t3592 } };
+    ghost view = { λ d. record { t3510 = d.t3510; t3516 = d.t3516; t3517 = d.t3517; t3521 = d.t3521; t3522 = d.t3522; t3550 = d.t3550; t3555 = d.t3555; t3560 = d.t3560; t3580 = d.t3580; t3581 = d.t3581; t3582 = d.t3582; t3591 = d.t3591; t3592 = d.t3592 } };
 
-    ghost invariant = { λ d. are_durations (record { t3510 = d.t3510; t3516 = d.t3516; t3517 = d.t3517; t3521 = d.t3521; t3522 = d.t3522; t3550 = d.t3550; t3560 = d.t3560; t3580 = d.t3580; t3581 = d.t3581; t3582 = d.t3582; t3591 = d.t3591; t3592 = d.t3592 }) ≡ true };
+    ghost invariant = { λ d. are_durations (record { t3510 = d.t3510; t3516 = d.t3516; t3517 = d.t3517; t3521 = d.t3521; t3522 = d.t3522; t3550 = d.t3550; t3555 = d.t3555; t3560 = d.t3560; t3580 = d.t3580; t3581 = d.t3581; t3582 = d.t3582; t3591 = d.t3591; t3592 = d.t3592 }) ≡ true };
 
-    ghost inverse = { λ d. record { t3510 = d.t3510; t3516 = d.t3516; t3517 = d.t3517; t3521 = d.t3521; t3522 = d.t3522; t3550 = d.t3550; t3560 = d.t3560; t3580 = d.t3580; t3581 = d.t3581; t3582 = d.t3582; t3591 = d.t3591; t3592 = d.t3592 } };
+    ghost inverse = { λ d. record { t3510 = d.t3510; t3516 = d.t3516; t3517 = d.t3517; t3521 = d.t3521; t3522 = d.t3522; t3550 = d.t3550; t3555 = d.t3555; t3560 = d.t3560; t3580 = d.t3580; t3581 = d.t3581; t3582 = d.t3582; t3591 = d.t3591; t3592 = d.t3592 } };
 }
 
 impl Durations {
@@ -49,6 +50,7 @@ impl Durations {
             t3521: Moment(15_000),
             t3522: Moment(6_000),
             t3550: Moment(6_000),
+            t3555: Moment(6_000),
             t3560: Moment(6_000),
             t3580: Moment(16_000),
             t3581: Moment(16_000),
@@ -69,6 +71,7 @@ impl Durations {
             TimerId::T3521 => self.t3521,
             TimerId::T3522 => self.t3522,
             TimerId::T3550 => self.t3550,
+            TimerId::T3555 => self.t3555,
             TimerId::T3560 => self.t3560,
             TimerId::T3580(_) => self.t3580,
             TimerId::T3581(_) => self.t3581,

@@ -4,6 +4,9 @@ ghost use Rattle.nas_timers.specs.Names.{is_before, is_name, same_name, session_
 
 use nas_base::Psi;
 
+/// How many names there are: 8 without a PDU session, and 5 for each of 15.
+pub const NAMES: usize = 83;
+
 /// The name of a timer (TS 24.501 clauses 10.2 and 10.3). Names are ordered by their numbers, and those of one number by their
 /// PDU sessions.
 #[derive(Clone, Copy, Debug, PartialEq, Eq, PartialOrd, Ord)]
@@ -20,6 +23,8 @@ pub enum TimerId {
     T3522,
     /// The network awaits REGISTRATION COMPLETE.
     T3550,
+    /// The network awaits CONFIGURATION UPDATE COMPLETE.
+    T3555,
     /// The network awaits the answer to AUTHENTICATION REQUEST or SECURITY MODE COMMAND.
     T3560,
     /// A handset awaits the answer to PDU SESSION ESTABLISHMENT REQUEST.

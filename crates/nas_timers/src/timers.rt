@@ -4,6 +4,7 @@ ghost use Rattle.nas_timers.specs.Places.{is_at, place_of};
 ghost use Rattle.nas_timers.specs.Timers.{deadline_of, due_of, is_sooner, soonest_from, sooner_of, started, stopped};
 
 use crate::TimerId;
+use crate::timer_id::NAMES;
 use arrayvec::ArrayVec;
 use nas_base::Moment;
 use std::marker::Model;
@@ -53,10 +54,10 @@ fn sooner_of(entry: Entry, found: Option<Entry>) -> Entry
     }
 }
 
-/// Timers that run, each with a deadline, and no name twice. There are at most 82 names, so no start is refused.
+/// Timers that run, each with a deadline, and no name twice. There is room for each name, so no start is refused.
 #[derive(Debug, Drop)]
 pub struct Timers {
-    entries: ArrayVec<Entry, 96>,
+    entries: ArrayVec<Entry, NAMES>,
 }
 
 impl Model for Timers {
@@ -95,7 +96,7 @@ impl Timers {
     pub fn start(&mut self, id: TimerId, at: Moment)
         ensures { self.new ≡ started id at self.old }
     {
-        // To read the name shows that it is one of the 82, so that there is room.
+        // To read the name shows that it is one of them, so that there is room.
         let _session = id.session();
         let index = self.place_of(&id);
         let entry = Entry { id, at };

@@ -1,7 +1,7 @@
 //! What was sent and what passed a check, with the verdict whether nobody forged.
-ghost use Rattle.std.specs.Prelude.{◌≡◌, ◌<◌, ◌^◌, [], ◌∷◌, ◌++◌, ◌&&◌, true, option_map, length, IfOk, OnOk, OnErr};
+ghost use Rattle.std.specs.Prelude.{◌≡◌, ◌<◌, ◌^◌, [], ◌∷◌, ◌++◌, ◌&&◌, true, option_map, length, OnOk, OnErr};
 ghost use Rattle.nas_base.specs.Branches.{per};
-ghost use Rattle.nas_world.specs.Honest.{all_honest, card_in, has_kamf_of, has_net_kamf, heard_down, heard_up, is_fair, net_kamf, passing, with_sent_down, with_sent_up};
+ghost use Rattle.nas_world.specs.Honest.{all_honest, card_in, has_kamf_of, has_net_kamf, heard_down, heard_up, net_kamf, passing, with_sent_down, with_sent_up};
 ghost use Rattle.nas_world.specs.declared.passes.End.TheVariants as ends;
 
 use crate::SentLog;

@@ -7,8 +7,6 @@ mod cards;
 mod commands;
 mod config;
 mod deliveries;
-#[cfg(test)]
-mod ends_tests;
 mod event;
 mod honesty;
 mod logs;
@@ -18,10 +16,6 @@ mod script;
 mod seen;
 mod sent;
 mod taken;
-#[cfg(test)]
-mod test_world;
-#[cfg(test)]
-mod tests;
 mod world;
 
 pub use crate::config::WorldConfig;

@@ -1,7 +1,5 @@
 pub mod Back
-pub mod CausesBack
-pub mod EstablishmentBack
+pub mod Bodies
 pub mod FirstElementsLaws
-pub mod ModificationBack
-pub mod ReleaseBack
+pub mod HalvesBack
 pub mod SpelledLaws

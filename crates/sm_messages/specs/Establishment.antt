@@ -1,57 +1,54 @@
--- The messages of the establishment of a PDU session (TS 24.501 clauses 8.3.1 to 8.3.3), behind their heads.
-use Rattle.std.specs.Prelude.{ℕ, List, [], ◌∷◌, ◌++◌, Option, option_map}
-use Rattle.nas_base.specs.Writing.{lv, lve, optional_tlv}
-use Rattle.nas_elements.specs.Address.{address_in, address_octets}
-use Rattle.nas_elements.specs.Ambr.{ambr_in, ambr_octets}
-use Rattle.nas_elements.specs.Dnn.{dnn_in}
+-- The messages of the establishment of a PDU session (TS 24.501 clauses 8.3.1 to 8.3.3).
+use Rattle.nas_base.specs.declared.shape.Form.TheVariants.{Half, Fixed, Tlv, Tlve}
 use Rattle.nas_elements.specs.Packed.{two_halves}
-use Rattle.nas_elements.specs.Slice.{slice_in, slice_octets}
-use Rattle.nas_elements.specs.declared.address.Address.{Address}
-use Rattle.nas_elements.specs.declared.ambr.Ambr.{Ambr}
-use Rattle.nas_elements.specs.declared.slice.Slice.{Slice}
-use Rattle.nas_layout.specs.Half.{half_in}
-use Rattle.nas_layout.specs.Layout.{Layout, elements, known, nothing_more, part}
-use Rattle.nas_layout.specs.Parts.{container_in, exactly, high_half, low_half, octet_in, one_octet}
-use Rattle.nas_layout.specs.Rows.{fixed_row, half_row, tlv_row, tlve_row}
-use Rattle.nas_layout.specs.Writing.{optional_half, optional_tlve, optional_tv}
+use Rattle.nas_layout.specs.Codings.{address, ambr, container, dnn, half, octet, octets, slice}
+use Rattle.nas_layout.specs.Parts.{high_half, low_half}
+use Rattle.nas_layout.specs.Table.{Table, element, elements, message, part, passed_over}
 use Rattle.nas_layout.specs.declared.frame.Frame.TheVariants.{V, Lv, Lve}
-use Rattle.sm_messages.specs.FlowDescriptions.{flow_descriptions_in, flow_descriptions_octets}
-use Rattle.sm_messages.specs.Parts.{session_type_in, session_type_of}
-use Rattle.sm_messages.specs.declared.flow_descriptions.FlowDescriptions.{FlowDescriptions}
-use Rattle.sm_messages.specs.declared.message.Sm.{Sm}
-use Rattle.sm_messages.specs.declared.message.Sm.TheVariants.{PduSessionEstablishmentRequest, PduSessionEstablishmentAccept, PduSessionEstablishmentReject}
+use Rattle.nas_layout.specs.declared.iei.TheConstants as iei
+use Rattle.sm_messages.specs.FlowDescriptions.{flow_descriptions}
+use Rattle.sm_messages.specs.Parts.{session_type, session_type_of}
+use Rattle.sm_messages.specs.declared.establishment.PduSessionEstablishmentAccept.{PduSessionEstablishmentAccept}
+use Rattle.sm_messages.specs.declared.establishment.PduSessionEstablishmentReject.{PduSessionEstablishmentReject}
+use Rattle.sm_messages.specs.declared.establishment.PduSessionEstablishmentRequest.{PduSessionEstablishmentRequest}
 
 -- PDU SESSION ESTABLISHMENT REQUEST: integrity protection maximum data rate. PDU session type, SSC mode; the maximum number of
 -- supported packet filters is passed over.
-unfoldable pub establishment_request_layout : Layout Sm
-establishment_request_layout =
-    part (V 2) (exactly 2) (λ rates.
-    elements (half_row 0x90 ∷ half_row 0xa0 ∷ fixed_row 0x55 2 ∷ []) (λ es.
-    PduSessionEstablishmentRequest rates (known 0x90 session_type_in es) (known 0xa0 half_in es)))
-
-unfoldable pub establishment_request : List ℕ → Option ℕ → Option ℕ → List ℕ
-establishment_request rates session_type ssc_mode = rates ++ (optional_half 0x90 session_type ++ optional_half 0xa0 ssc_mode)
+unfoldable pub pdu_session_establishment_request : Table PduSessionEstablishmentRequest
+pdu_session_establishment_request =
+    part (V 2) (octets 2) (λ m. m.maximum_rates) (λ maximum_rates.
+    elements (
+    element iei.PDU_SESSION_TYPE Half session_type (λ m. m.session_type) (λ session_type.
+    element iei.SSC_MODE Half half (λ m. m.ssc_mode) (λ ssc_mode.
+    passed_over iei.MAXIMUM_NUMBER_OF_SUPPORTED_PACKET_FILTERS (Fixed 3) (
+    message (record { maximum_rates = maximum_rates; session_type = session_type; ssc_mode = ssc_mode }))))))
 
 -- PDU SESSION ESTABLISHMENT ACCEPT: selected PDU session type and SSC mode; authorized QoS rules; session AMBR. 5GSM cause, PDU
 -- address, S-NSSAI, authorized QoS flow descriptions, DNN; the RQ timer is passed over.
-unfoldable pub establishment_accept_layout : Layout Sm
-establishment_accept_layout =
-    part (V 1) octet_in (λ first.
-    part Lve container_in (λ rules.
-    part Lv ambr_in (λ ambr.
-    elements (fixed_row 0x59 1 ∷ tlv_row 0x29 ∷ tlv_row 0x22 ∷ tlve_row 0x79 ∷ tlv_row 0x25 ∷ fixed_row 0x56 1 ∷ []) (λ es.
-    PduSessionEstablishmentAccept (session_type_of (low_half first)) (high_half first) rules ambr (known 0x59 octet_in es) (known 0x29 address_in es)
-    (known 0x22 slice_in es) (known 0x79 flow_descriptions_in es) (known 0x25 dnn_in es)))))
-
-unfoldable pub accept_elements : Option ℕ → Option Address → Option Slice → Option FlowDescriptions → Option (List ℕ) → List ℕ
-accept_elements cause address slice flows dnn =
-    optional_tv 0x59 (option_map one_octet cause) ++ (optional_tlv 0x29 (option_map address_octets address) ++ (optional_tlv 0x22 (option_map slice_octets slice)
-    ++ (optional_tlve 0x79 (option_map flow_descriptions_octets flows) ++ optional_tlv 0x25 dnn)))
-
-unfoldable pub establishment_accept : ℕ → ℕ → List ℕ → Ambr → Option ℕ → Option Address → Option Slice → Option FlowDescriptions → Option (List ℕ) → List ℕ
-establishment_accept session_type ssc_mode rules ambr cause address slice flows dnn =
-    two_halves session_type ssc_mode ∷ (lve rules ++ (lv (ambr_octets ambr) ++ accept_elements cause address slice flows dnn))
+unfoldable pub pdu_session_establishment_accept : Table PduSessionEstablishmentAccept
+pdu_session_establishment_accept =
+    part (V 1) octet (λ m. two_halves m.session_type m.ssc_mode) (λ first.
+    part Lve container (λ m. m.rules) (λ rules.
+    part Lv ambr (λ m. m.ambr) (λ ambr.
+    elements (
+    element iei.CAUSE_5GSM (Fixed 2) octet (λ m. m.cause) (λ cause.
+    element iei.PDU_ADDRESS Tlv address (λ m. m.address) (λ address.
+    element iei.S_NSSAI Tlv slice (λ m. m.slice) (λ slice.
+    element iei.AUTHORIZED_QOS_FLOW_DESCRIPTIONS Tlve flow_descriptions (λ m. m.flows) (λ flows.
+    element iei.DNN Tlv dnn (λ m. m.dnn) (λ dnn.
+    passed_over iei.RQ_TIMER_VALUE (Fixed 2) (
+    message (record {
+      session_type = session_type_of (low_half first);
+      ssc_mode = high_half first;
+      rules = rules;
+      ambr = ambr;
+      cause = cause;
+      address = address;
+      slice = slice;
+      flows = flows;
+      dnn = dnn;
+    })))))))))))
 
 -- PDU SESSION ESTABLISHMENT REJECT: 5GSM cause
-unfoldable pub establishment_reject_layout : Layout Sm
-establishment_reject_layout = part (V 1) octet_in (λ cause. nothing_more (PduSessionEstablishmentReject cause))
+unfoldable pub pdu_session_establishment_reject : Table PduSessionEstablishmentReject
+pdu_session_establishment_reject = part (V 1) octet (λ m. m.cause) (λ cause. elements (message (record { cause = cause })))

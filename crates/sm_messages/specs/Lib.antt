@@ -1,3 +1,4 @@
+pub mod Bodies
 pub mod Establishment
 pub mod FirstElements
 pub mod FlowDescriptions

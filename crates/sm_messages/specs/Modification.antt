@@ -1,44 +1,39 @@
--- The messages of the modification of a PDU session (TS 24.501 clauses 8.3.7 to 8.3.11), behind their heads.
-use Rattle.std.specs.Prelude.{ℕ, List, [], ◌∷◌, ◌++◌, Option, option_map}
-use Rattle.nas_base.specs.Writing.{optional_tlv}
-use Rattle.nas_elements.specs.Ambr.{ambr_in, ambr_octets}
-use Rattle.nas_elements.specs.declared.ambr.Ambr.{Ambr}
-use Rattle.nas_layout.specs.Layout.{Layout, elements, known, nothing_more, part}
-use Rattle.nas_layout.specs.Parts.{container_in, octet_in, one_octet}
-use Rattle.nas_layout.specs.Rows.{fixed_row, tlv_row, tlve_row}
-use Rattle.nas_layout.specs.Writing.{optional_tlve, optional_tv}
+-- The messages of the modification of a PDU session (TS 24.501 clauses 8.3.7 to 8.3.11).
+use Rattle.nas_base.specs.declared.shape.Form.TheVariants.{Fixed, Tlv, Tlve}
+use Rattle.nas_layout.specs.Codings.{ambr, container, octet}
+use Rattle.nas_layout.specs.Table.{Table, element, elements, message, part, passed_over}
 use Rattle.nas_layout.specs.declared.frame.Frame.TheVariants.{V}
-use Rattle.sm_messages.specs.declared.message.Sm.{Sm}
-use Rattle.sm_messages.specs.declared.message.Sm.TheVariants.{PduSessionModificationRequest, PduSessionModificationReject, PduSessionModificationCommand, PduSessionModificationComplete, PduSessionModificationCommandReject}
+use Rattle.nas_layout.specs.declared.iei.TheConstants as iei
+use Rattle.sm_messages.specs.declared.modification.PduSessionModificationCommand.{PduSessionModificationCommand}
+use Rattle.sm_messages.specs.declared.modification.PduSessionModificationCommandReject.{PduSessionModificationCommandReject}
+use Rattle.sm_messages.specs.declared.modification.PduSessionModificationReject.{PduSessionModificationReject}
+use Rattle.sm_messages.specs.declared.modification.PduSessionModificationRequest.{PduSessionModificationRequest}
 
 -- PDU SESSION MODIFICATION REQUEST. 5GSM cause, requested QoS rules; the maximum number of supported packet filters and the
 -- integrity protection maximum data rate are passed over.
-unfoldable pub modification_request_layout : Layout Sm
-modification_request_layout =
-    elements (fixed_row 0x59 1 ∷ tlve_row 0x7a ∷ fixed_row 0x55 2 ∷ fixed_row 0x13 2 ∷ []) (λ es.
-    PduSessionModificationRequest (known 0x59 octet_in es) (known 0x7a container_in es))
-
-unfoldable pub modification_request : Option ℕ → Option (List ℕ) → List ℕ
-modification_request cause rules = optional_tv 0x59 (option_map one_octet cause) ++ optional_tlve 0x7a rules
+unfoldable pub pdu_session_modification_request : Table PduSessionModificationRequest
+pdu_session_modification_request =
+    elements (
+    element iei.CAUSE_5GSM (Fixed 2) octet (λ m. m.cause) (λ cause.
+    element iei.QOS_RULES Tlve container (λ m. m.rules) (λ rules.
+    passed_over iei.MAXIMUM_NUMBER_OF_SUPPORTED_PACKET_FILTERS (Fixed 3) (
+    passed_over iei.INTEGRITY_PROTECTION_MAXIMUM_DATA_RATE (Fixed 3) (
+    message (record { cause = cause; rules = rules }))))))
 
 -- PDU SESSION MODIFICATION REJECT: 5GSM cause
-unfoldable pub modification_reject_layout : Layout Sm
-modification_reject_layout = part (V 1) octet_in (λ cause. nothing_more (PduSessionModificationReject cause))
+unfoldable pub pdu_session_modification_reject : Table PduSessionModificationReject
+pdu_session_modification_reject = part (V 1) octet (λ m. m.cause) (λ cause. elements (message (record { cause = cause })))
 
 -- PDU SESSION MODIFICATION COMMAND. 5GSM cause, session AMBR, authorized QoS rules; the RQ timer is passed over.
-unfoldable pub modification_command_layout : Layout Sm
-modification_command_layout =
-    elements (fixed_row 0x59 1 ∷ tlv_row 0x2a ∷ tlve_row 0x7a ∷ fixed_row 0x56 1 ∷ []) (λ es.
-    PduSessionModificationCommand (known 0x59 octet_in es) (known 0x2a ambr_in es) (known 0x7a container_in es))
-
-unfoldable pub modification_command : Option ℕ → Option Ambr → Option (List ℕ) → List ℕ
-modification_command cause ambr rules =
-    optional_tv 0x59 (option_map one_octet cause) ++ (optional_tlv 0x2a (option_map ambr_octets ambr) ++ optional_tlve 0x7a rules)
-
--- PDU SESSION MODIFICATION COMPLETE
-abbrev pub modification_complete_layout : Layout Sm
-modification_complete_layout = nothing_more PduSessionModificationComplete
+unfoldable pub pdu_session_modification_command : Table PduSessionModificationCommand
+pdu_session_modification_command =
+    elements (
+    element iei.CAUSE_5GSM (Fixed 2) octet (λ m. m.cause) (λ cause.
+    element iei.SESSION_AMBR Tlv ambr (λ m. m.ambr) (λ ambr.
+    element iei.QOS_RULES Tlve container (λ m. m.rules) (λ rules.
+    passed_over iei.RQ_TIMER_VALUE (Fixed 2) (
+    message (record { cause = cause; ambr = ambr; rules = rules }))))))
 
 -- PDU SESSION MODIFICATION COMMAND REJECT: 5GSM cause
-unfoldable pub modification_command_reject_layout : Layout Sm
-modification_command_reject_layout = part (V 1) octet_in (λ cause. nothing_more (PduSessionModificationCommandReject cause))
+unfoldable pub pdu_session_modification_command_reject : Table PduSessionModificationCommandReject
+pdu_session_modification_command_reject = part (V 1) octet (λ m. m.cause) (λ cause. elements (message (record { cause = cause })))

@@ -1,31 +1,26 @@
--- The messages of the release of a PDU session (TS 24.501 clauses 8.3.12 to 8.3.15), behind their heads.
-use Rattle.std.specs.Prelude.{ℕ, List, [], ◌∷◌, Option, option_map}
-use Rattle.nas_layout.specs.Layout.{Layout, elements, known, nothing_more, part}
-use Rattle.nas_layout.specs.Parts.{octet_in, one_octet}
-use Rattle.nas_layout.specs.Rows.{fixed_row}
-use Rattle.nas_layout.specs.Writing.{optional_tv}
+-- The messages of the release of a PDU session (TS 24.501 clauses 8.3.12 to 8.3.15).
+use Rattle.nas_base.specs.declared.shape.Form.TheVariants.{Fixed}
+use Rattle.nas_layout.specs.Codings.{octet}
+use Rattle.nas_layout.specs.Table.{Table, element, elements, message, part}
 use Rattle.nas_layout.specs.declared.frame.Frame.TheVariants.{V}
-use Rattle.sm_messages.specs.declared.message.Sm.{Sm}
-use Rattle.sm_messages.specs.declared.message.Sm.TheVariants.{PduSessionReleaseRequest, PduSessionReleaseReject, PduSessionReleaseCommand, PduSessionReleaseComplete}
+use Rattle.nas_layout.specs.declared.iei.TheConstants as iei
+use Rattle.sm_messages.specs.declared.release.PduSessionReleaseCommand.{PduSessionReleaseCommand}
+use Rattle.sm_messages.specs.declared.release.PduSessionReleaseComplete.{PduSessionReleaseComplete}
+use Rattle.sm_messages.specs.declared.release.PduSessionReleaseReject.{PduSessionReleaseReject}
+use Rattle.sm_messages.specs.declared.release.PduSessionReleaseRequest.{PduSessionReleaseRequest}
 
 -- PDU SESSION RELEASE REQUEST. 5GSM cause.
-unfoldable pub release_request_layout : Layout Sm
-release_request_layout = elements (fixed_row 0x59 1 ∷ []) (λ es. PduSessionReleaseRequest (known 0x59 octet_in es))
-
-unfoldable pub release_request : Option ℕ → List ℕ
-release_request cause = optional_tv 0x59 (option_map one_octet cause)
+unfoldable pub pdu_session_release_request : Table PduSessionReleaseRequest
+pdu_session_release_request = elements (element iei.CAUSE_5GSM (Fixed 2) octet (λ m. m.cause) (λ cause. message (record { cause = cause })))
 
 -- PDU SESSION RELEASE REJECT: 5GSM cause
-unfoldable pub release_reject_layout : Layout Sm
-release_reject_layout = part (V 1) octet_in (λ cause. nothing_more (PduSessionReleaseReject cause))
+unfoldable pub pdu_session_release_reject : Table PduSessionReleaseReject
+pdu_session_release_reject = part (V 1) octet (λ m. m.cause) (λ cause. elements (message (record { cause = cause })))
 
 -- PDU SESSION RELEASE COMMAND: 5GSM cause
-unfoldable pub release_command_layout : Layout Sm
-release_command_layout = part (V 1) octet_in (λ cause. nothing_more (PduSessionReleaseCommand cause))
+unfoldable pub pdu_session_release_command : Table PduSessionReleaseCommand
+pdu_session_release_command = part (V 1) octet (λ m. m.cause) (λ cause. elements (message (record { cause = cause })))
 
 -- PDU SESSION RELEASE COMPLETE. 5GSM cause.
-unfoldable pub release_complete_layout : Layout Sm
-release_complete_layout = elements (fixed_row 0x59 1 ∷ []) (λ es. PduSessionReleaseComplete (known 0x59 octet_in es))
-
-unfoldable pub release_complete : Option ℕ → List ℕ
-release_complete cause = optional_tv 0x59 (option_map one_octet cause)
+unfoldable pub pdu_session_release_complete : Table PduSessionReleaseComplete
+pdu_session_release_complete = elements (element iei.CAUSE_5GSM (Fixed 2) octet (λ m. m.cause) (λ cause. message (record { cause = cause })))

@@ -1,28 +1,28 @@
 //! What a network tells of the QoS flows of a session.
-use nas_base::{Full, Writer};
-use nas_layout::{Counted, Written};
+
+use nas_layout::{Coded, Readable, Spelled};
 
 /// That QoS flow descriptions are there (TS 24.501 clause 9.11.4.12). What they describe is not kept: they are written as one
 /// description, which creates flow 1 with 5QI 9.
 #[derive(Clone, Copy, Debug, PartialEq, Eq)]
 pub struct FlowDescriptions;
 
-impl Written for FlowDescriptions {
-    ghost use Rattle.sm_messages.specs.FlowDescriptions.{flow_descriptions_octets};
+impl Coded for FlowDescriptions {
+    ghost use Rattle.sm_messages.specs.FlowDescriptions.{flow_descriptions};
 
-    ghost octets = { flow_descriptions_octets };
+    ghost coding = { flow_descriptions };
 
-    fn size(&self) -> usize {
-        6
-    }
+    ghost most = { 6 };
 
-    fn write_to(&self, out: &mut Writer) -> Result<(), Full> {
-        out.put(&[0x01, 0x20, 0x41, 0x01, 0x01, 0x09])
+    fn octets(&self) -> Spelled<'_> {
+        Spelled::of_octets(&[0x01, 0x20, 0x41, 0x01, 0x01, 0x09])
     }
 }
 
-impl Counted for FlowDescriptions {
-    fn count(&self) -> u8 {
-        6
+impl Readable for FlowDescriptions {
+    fn read_from(_octets: &[u8]) -> Option<FlowDescriptions> {
+        Some(FlowDescriptions)
     }
+
+    fn is_read_back(&self) {}
 }

@@ -1,10 +1,12 @@
 //! What holds of every message. These functions do nothing: their contracts are the laws.
-ghost use Rattle.std.specs.Prelude.{◌≡◌, Ok};
-ghost use Rattle.sm_messages.specs.Messages.{sm_in, spelled, spelling};
+ghost use Rattle.std.specs.Prelude.{◌≡◌, ℕ, true, List, ◌++◌, Ok};
+ghost use Rattle.nas_base.specs.Walking.{RowParts, elements_in};
+ghost use Rattle.nas_layout.specs.FirstElements.{count_nothing, is_walked_whole};
+ghost use Rattle.sm_messages.specs.FirstElements.{EndsInElements};
+ghost use Rattle.sm_messages.specs.Messages.{SpellsFrame, sm_in, spelled, spelling};
+ghost use Rattle.sm_messages.specs.declared.message.SmFrame.{SmFrame as AFrame};
 
-use crate::{
-    Sm, SmFrame, establishment_laws, modification_laws, release_laws, status_message_laws,
-};
+use crate::{Sm, SmFrame};
 
 /// A message that is written is read back.
 pub fn frame_is_read_back(frame: &SmFrame)
@@ -14,56 +16,35 @@ pub fn frame_is_read_back(frame: &SmFrame)
 }
 
 // Under any identities.
+#[tactic(auto, using(crate::proofs::Back::back))]
 fn message_is_read_back(psi: u8, pti: u8, message: &Sm)
     ensures { sm_in (spelled psi pti message.now) ≡ Ok (record { psi = psi; pti = pti; body = message.now }) }
 {
     match message {
-        Sm::PduSessionEstablishmentRequest {
-            maximum_rates,
-            session_type,
-            ssc_mode,
-        } => establishment_laws::request(psi, pti, maximum_rates, session_type, ssc_mode),
-        Sm::PduSessionEstablishmentAccept {
-            session_type,
-            ssc_mode,
-            rules,
-            ambr,
-            cause,
-            address,
-            slice,
-            flows,
-            dnn,
-        } => establishment_laws::accept(
-            psi,
-            pti,
-            *session_type,
-            *ssc_mode,
-            rules,
-            ambr,
-            cause,
-            address,
-            slice,
-            flows,
-            dnn,
-        ),
-        Sm::PduSessionEstablishmentReject { cause } => {
-            establishment_laws::reject(psi, pti, *cause)
-        }
-        Sm::PduSessionModificationRequest { cause, rules } => {
-            modification_laws::request(psi, pti, cause, rules)
-        }
-        Sm::PduSessionModificationReject { cause } => modification_laws::reject(psi, pti, *cause),
-        Sm::PduSessionModificationCommand { cause, ambr, rules } => {
-            modification_laws::command(psi, pti, cause, ambr, rules)
-        }
-        Sm::PduSessionModificationComplete => modification_laws::complete(psi, pti),
-        Sm::PduSessionModificationCommandReject { cause } => {
-            modification_laws::command_reject(psi, pti, *cause)
-        }
-        Sm::PduSessionReleaseRequest { cause } => release_laws::request(psi, pti, cause),
-        Sm::PduSessionReleaseReject { cause } => release_laws::reject(psi, pti, *cause),
-        Sm::PduSessionReleaseCommand { cause } => release_laws::command(psi, pti, *cause),
-        Sm::PduSessionReleaseComplete { cause } => release_laws::complete(psi, pti, cause),
-        Sm::FiveGsmStatus { cause } => status_message_laws::status(psi, pti, *cause),
+        Sm::PduSessionEstablishmentRequest(message) => message.is_read_back(),
+        Sm::PduSessionEstablishmentAccept(message) => message.is_read_back(),
+        Sm::PduSessionEstablishmentReject(message) => message.is_read_back(),
+        Sm::PduSessionModificationRequest(message) => message.is_read_back(),
+        Sm::PduSessionModificationReject(message) => message.is_read_back(),
+        Sm::PduSessionModificationCommand(message) => message.is_read_back(),
+        Sm::PduSessionModificationCommandReject(message) => message.is_read_back(),
+        Sm::PduSessionReleaseRequest(message) => message.is_read_back(),
+        Sm::PduSessionReleaseReject(message) => message.is_read_back(),
+        Sm::PduSessionReleaseCommand(message) => message.is_read_back(),
+        Sm::PduSessionReleaseComplete(message) => message.is_read_back(),
+        Sm::FiveGsmStatus(message) => message.is_read_back(),
+        Sm::PduSessionModificationComplete => {}
     }
 }
+
+/// Octets spell a message exactly where it is what is read in them; so they spell at most one.
+pub fn frames_are_spelled(octets: &[u8])
+    ensures found { (frame : AFrame) → SpellsFrame octets.now frame → sm_in octets.now ≡ Ok frame }
+    ensures only { (frame : AFrame) → sm_in octets.now ≡ Ok frame → SpellsFrame octets.now frame }
+{}
+
+/// Of elements with the same identifier the first counts: behind a message none of whose elements is cut, further octets change
+/// nothing where each element in them has an identifier that stood before, or one that the message's table doesn't know.
+pub fn first_elements_count(octets: &[u8])
+    ensures { (shape : List RowParts) (tail more : List ℕ) → EndsInElements octets.now shape tail → is_walked_whole shape tail ≡ true → count_nothing shape (elements_in shape tail) (elements_in shape more) ≡ true → sm_in (octets.now ++ more) ≡ sm_in octets.now }
+{}

@@ -1,15 +1,22 @@
 //! The messages, and their way to octets and back.
-ghost use Rattle.std.specs.Prelude.{[], ◌∷◌, ◌++◌};
+ghost use Rattle.std.specs.Prelude.{◌≡◌, ◌≤◌, length};
 ghost use Rattle.nas_base.specs.Kinds.{sm_type};
 ghost use Rattle.nas_base.specs.Writing.{Writes};
-ghost use Rattle.nas_layout.specs.Layout.{Lays, laid};
-ghost use Rattle.sm_messages.specs.Messages.{Decodes, layout_of, sm_in, spelled, spelling};
+ghost use Rattle.nas_layout.specs.Pieces.{pieces_octets};
+ghost use Rattle.nas_layout.specs.Telling.{HearsAll};
+ghost use Rattle.sm_messages.specs.Bodies.{LaysBody};
+ghost use Rattle.sm_messages.specs.Messages.{Decodes, pieces_of, spelling};
 ghost use Rattle.sm_messages.specs.Parts.{head};
 
-use crate::{FlowDescriptions, SessionType, establishment, modification, release, status_message};
-use nas_base::{Full, Octets, Reader, SmKind, Writer};
-use nas_elements::{Address, Ambr, Dnn, Slice};
-use nas_layout::{BodyRefusal, Half};
+use crate::{
+    FiveGsmStatus, PduSessionEstablishmentAccept, PduSessionEstablishmentReject,
+    PduSessionEstablishmentRequest, PduSessionModificationCommand,
+    PduSessionModificationCommandReject, PduSessionModificationReject,
+    PduSessionModificationRequest, PduSessionReleaseCommand, PduSessionReleaseComplete,
+    PduSessionReleaseReject, PduSessionReleaseRequest, kind_of,
+};
+use nas_base::{Full, Reader, SmKind, Writer};
+use nas_layout::{BodyRefusal, Pieces, Size};
 use std::alloc::Global;
 
 /// 5GSM's extended protocol discriminator (TS 24.501 clause 9.2).
@@ -20,70 +27,32 @@ pub const EPD_5GSM: u8 = 0x2e;
 /// not kept, nor are elements that are passed over.
 #[derive(Drop)]
 pub enum Sm {
-    /// PDU SESSION ESTABLISHMENT REQUEST, with the maximum data rates of integrity protection for the uplink and for the
-    /// downlink (clause 8.3.1).
-    PduSessionEstablishmentRequest {
-        maximum_rates: [u8; 2],
-        session_type: Option<SessionType>,
-        ssc_mode: Option<Half>,
-    },
+    /// PDU SESSION ESTABLISHMENT REQUEST (clause 8.3.1).
+    PduSessionEstablishmentRequest(PduSessionEstablishmentRequest),
     /// PDU SESSION ESTABLISHMENT ACCEPT (clause 8.3.2).
-    PduSessionEstablishmentAccept {
-        session_type: SessionType,
-        ssc_mode: Half,
-        rules: Octets,
-        ambr: Ambr,
-        cause: Option<u8>,
-        address: Option<Address>,
-        slice: Option<Slice>,
-        flows: Option<FlowDescriptions>,
-        dnn: Option<Dnn>,
-    },
+    PduSessionEstablishmentAccept(PduSessionEstablishmentAccept),
     /// PDU SESSION ESTABLISHMENT REJECT (clause 8.3.3).
-    PduSessionEstablishmentReject {
-        cause: u8,
-    },
+    PduSessionEstablishmentReject(PduSessionEstablishmentReject),
     /// PDU SESSION MODIFICATION REQUEST (clause 8.3.7).
-    PduSessionModificationRequest {
-        cause: Option<u8>,
-        rules: Option<Octets>,
-    },
+    PduSessionModificationRequest(PduSessionModificationRequest),
     /// PDU SESSION MODIFICATION REJECT (clause 8.3.8).
-    PduSessionModificationReject {
-        cause: u8,
-    },
+    PduSessionModificationReject(PduSessionModificationReject),
     /// PDU SESSION MODIFICATION COMMAND (clause 8.3.9).
-    PduSessionModificationCommand {
-        cause: Option<u8>,
-        ambr: Option<Ambr>,
-        rules: Option<Octets>,
-    },
+    PduSessionModificationCommand(PduSessionModificationCommand),
     /// PDU SESSION MODIFICATION COMPLETE (clause 8.3.10).
     PduSessionModificationComplete,
     /// PDU SESSION MODIFICATION COMMAND REJECT (clause 8.3.11).
-    PduSessionModificationCommandReject {
-        cause: u8,
-    },
+    PduSessionModificationCommandReject(PduSessionModificationCommandReject),
     /// PDU SESSION RELEASE REQUEST (clause 8.3.12).
-    PduSessionReleaseRequest {
-        cause: Option<u8>,
-    },
+    PduSessionReleaseRequest(PduSessionReleaseRequest),
     /// PDU SESSION RELEASE REJECT (clause 8.3.13).
-    PduSessionReleaseReject {
-        cause: u8,
-    },
+    PduSessionReleaseReject(PduSessionReleaseReject),
     /// PDU SESSION RELEASE COMMAND (clause 8.3.14).
-    PduSessionReleaseCommand {
-        cause: u8,
-    },
+    PduSessionReleaseCommand(PduSessionReleaseCommand),
     /// PDU SESSION RELEASE COMPLETE (clause 8.3.15).
-    PduSessionReleaseComplete {
-        cause: Option<u8>,
-    },
+    PduSessionReleaseComplete(PduSessionReleaseComplete),
     /// 5GSM STATUS (clause 8.3.16).
-    FiveGsmStatus {
-        cause: u8,
-    },
+    FiveGsmStatus(FiveGsmStatus),
 }
 
 /// A whole 5GSM message: the PDU session identity and the procedure transaction identity (PTI) of its head, which are kept also
@@ -114,10 +83,11 @@ pub enum SmRefusal {
 ///
 /// # Errors
 ///
-/// `Ignored`, `UnknownType` and `Mandatory` exactly where there is none, in this order; or `Memory`.
+/// `Ignored`, `UnknownType` and `Mandatory` exactly where there is none, in this order; or `Memory`, where a part or an element is
+/// kept as its octets.
 #[tactic(auto, unfolding(crate::specs::Messages::sm_in))]
 pub fn decode_sm(alloc: Global, octets: &[u8]) -> Result<SmFrame, SmRefusal>
-    ensures { Decodes result (sm_in octets.now) }
+    ensures { Decodes result octets.now }
 {
     if !octets.is_empty() && octets[0] != EPD_5GSM {
         return Err(SmRefusal::Ignored { at: 0 });
@@ -142,23 +112,46 @@ pub fn decode_sm(alloc: Global, octets: &[u8]) -> Result<SmFrame, SmRefusal>
 }
 
 // Reads what stands behind the head of a message of this kind.
+#[tactic(auto, using(crate::proofs::Bodies::refused))]
 fn read_body(alloc: Global, kind: SmKind, reader: &mut Reader) -> Result<Sm, BodyRefusal>
-    ensures { Lays result (laid (layout_of kind) 1 reader.old) }
+    ensures { LaysBody result kind reader.old }
 {
     match kind {
-        SmKind::PduSessionEstablishmentRequest => establishment::read_request(reader),
-        SmKind::PduSessionEstablishmentAccept => establishment::read_accept(alloc, reader),
-        SmKind::PduSessionEstablishmentReject => establishment::read_reject(reader),
-        SmKind::PduSessionModificationRequest => modification::read_request(alloc, reader),
-        SmKind::PduSessionModificationReject => modification::read_reject(reader),
-        SmKind::PduSessionModificationCommand => modification::read_command(alloc, reader),
+        SmKind::PduSessionEstablishmentRequest => Ok(Sm::PduSessionEstablishmentRequest(
+            PduSessionEstablishmentRequest::read(reader)?,
+        )),
+        SmKind::PduSessionEstablishmentAccept => Ok(Sm::PduSessionEstablishmentAccept(
+            PduSessionEstablishmentAccept::read(alloc, reader)?,
+        )),
+        SmKind::PduSessionEstablishmentReject => Ok(Sm::PduSessionEstablishmentReject(
+            PduSessionEstablishmentReject::read(reader)?,
+        )),
+        SmKind::PduSessionModificationRequest => Ok(Sm::PduSessionModificationRequest(
+            PduSessionModificationRequest::read(alloc, reader)?,
+        )),
+        SmKind::PduSessionModificationReject => Ok(Sm::PduSessionModificationReject(
+            PduSessionModificationReject::read(reader)?,
+        )),
+        SmKind::PduSessionModificationCommand => Ok(Sm::PduSessionModificationCommand(
+            PduSessionModificationCommand::read(alloc, reader)?,
+        )),
         SmKind::PduSessionModificationComplete => Ok(Sm::PduSessionModificationComplete),
-        SmKind::PduSessionModificationCommandReject => modification::read_command_reject(reader),
-        SmKind::PduSessionReleaseRequest => release::read_request(reader),
-        SmKind::PduSessionReleaseReject => release::read_reject(reader),
-        SmKind::PduSessionReleaseCommand => release::read_command(reader),
-        SmKind::PduSessionReleaseComplete => release::read_complete(reader),
-        SmKind::FiveGsmStatus => status_message::read(reader),
+        SmKind::PduSessionModificationCommandReject => Ok(Sm::PduSessionModificationCommandReject(
+            PduSessionModificationCommandReject::read(reader)?,
+        )),
+        SmKind::PduSessionReleaseRequest => Ok(Sm::PduSessionReleaseRequest(
+            PduSessionReleaseRequest::read(reader)?,
+        )),
+        SmKind::PduSessionReleaseReject => Ok(Sm::PduSessionReleaseReject(
+            PduSessionReleaseReject::read(reader)?,
+        )),
+        SmKind::PduSessionReleaseCommand => Ok(Sm::PduSessionReleaseCommand(
+            PduSessionReleaseCommand::read(reader)?,
+        )),
+        SmKind::PduSessionReleaseComplete => Ok(Sm::PduSessionReleaseComplete(
+            PduSessionReleaseComplete::read(reader)?,
+        )),
+        SmKind::FiveGsmStatus => Ok(Sm::FiveGsmStatus(FiveGsmStatus::read(reader)?)),
     }
 }
 
@@ -170,90 +163,50 @@ fn read_body(alloc: Global, kind: SmKind, reader: &mut Reader) -> Result<Sm, Bod
 pub fn encode_sm(value: &SmFrame, out: &mut Writer) -> Result<(), Full>
     ensures { Writes (spelling value.now) out.old out.new result }
 {
-    write(value.psi, value.pti, &value.body, out)
+    out.fits(4 + size_of(&value.body))?;
+    write_head(value.psi, value.pti, kind_of(&value.body), out)?;
+    tell(&value.body, out)
 }
 
-// Writes the message under these identities.
-fn write(psi: u8, pti: u8, message: &Sm, out: &mut Writer) -> Result<(), Full>
-    ensures { Writes (spelled psi pti message.now) out.old out.new result }
+// How many octets stand behind the head.
+fn size_of(message: &Sm) -> usize
+    ensures value { result ≡ length (pieces_octets (pieces_of message.now)) }
+    ensures limit { result ≤ 65648 }
 {
-    match message {
-        Sm::PduSessionEstablishmentRequest {
-            maximum_rates,
-            session_type,
-            ssc_mode,
-        } => establishment::write_request(psi, pti, maximum_rates, session_type, ssc_mode, out),
-        Sm::PduSessionEstablishmentAccept {
-            session_type,
-            ssc_mode,
-            rules,
-            ambr,
-            cause,
-            address,
-            slice,
-            flows,
-            dnn,
-        } => establishment::write_accept(
-            psi,
-            pti,
-            *session_type,
-            *ssc_mode,
-            rules,
-            ambr,
-            cause,
-            address,
-            slice,
-            flows,
-            dnn,
-            out,
-        ),
-        Sm::PduSessionModificationRequest { cause, rules } => {
-            modification::write_request(psi, pti, cause, rules, out)
-        }
-        Sm::PduSessionModificationCommand { cause, ambr, rules } => {
-            modification::write_command(psi, pti, cause, ambr, rules, out)
-        }
-        Sm::PduSessionModificationComplete => {
-            write_head(psi, pti, SmKind::PduSessionModificationComplete, out)
-        }
-        Sm::PduSessionReleaseRequest { cause } => release::write_request(psi, pti, cause, out),
-        Sm::PduSessionReleaseComplete { cause } => release::write_complete(psi, pti, cause, out),
-        Sm::PduSessionEstablishmentReject { cause } => {
-            write_cause(psi, pti, SmKind::PduSessionEstablishmentReject, *cause, out)
-        }
-        Sm::PduSessionModificationReject { cause } => {
-            write_cause(psi, pti, SmKind::PduSessionModificationReject, *cause, out)
-        }
-        Sm::PduSessionModificationCommandReject { cause } => {
-            write_cause(
-                psi,
-                pti,
-                SmKind::PduSessionModificationCommandReject,
-                *cause,
-                out,
-            )
-        }
-        Sm::PduSessionReleaseReject { cause } => {
-            write_cause(psi, pti, SmKind::PduSessionReleaseReject, *cause, out)
-        }
-        Sm::PduSessionReleaseCommand { cause } => {
-            write_cause(psi, pti, SmKind::PduSessionReleaseCommand, *cause, out)
-        }
-        Sm::FiveGsmStatus { cause } => { write_cause(psi, pti, SmKind::FiveGsmStatus, *cause, out) }
+    let mut size = Size::new();
+    match tell(message, &mut size) {
+        Ok(()) => size.octets(),
+        Err(_) => unreachable!(),
     }
 }
 
-// Writes a message of this kind that has a cause and nothing else.
-fn write_cause(psi: u8, pti: u8, kind: SmKind, cause: u8, out: &mut Writer) -> Result<(), Full>
-    ensures { Writes (head psi pti (sm_type kind) ++ cause ∷ []) out.old out.new result }
+/// Tells what stands behind the message's head, piece by piece, in the order of the standard's tables.
+///
+/// # Errors
+///
+/// What the listener has.
+pub fn tell<P: Pieces>(message: &Sm, to: &mut P) -> Result<(), P::Refusal>
+    ensures { HearsAll P.with_piece P.refuses to.old to.new (pieces_of message.now) result }
 {
-    out.fits(5)?;
-    write_head(psi, pti, kind, out)?;
-    out.put(&[cause])
+    match message {
+        Sm::PduSessionEstablishmentRequest(message) => message.tell(to),
+        Sm::PduSessionEstablishmentAccept(message) => message.tell(to),
+        Sm::PduSessionEstablishmentReject(message) => message.tell(to),
+        Sm::PduSessionModificationRequest(message) => message.tell(to),
+        Sm::PduSessionModificationReject(message) => message.tell(to),
+        Sm::PduSessionModificationCommand(message) => message.tell(to),
+        Sm::PduSessionModificationCommandReject(message) => message.tell(to),
+        Sm::PduSessionReleaseRequest(message) => message.tell(to),
+        Sm::PduSessionReleaseReject(message) => message.tell(to),
+        Sm::PduSessionReleaseCommand(message) => message.tell(to),
+        Sm::PduSessionReleaseComplete(message) => message.tell(to),
+        Sm::FiveGsmStatus(message) => message.tell(to),
+        Sm::PduSessionModificationComplete => Ok(()),
+    }
 }
 
-/// The head of a message of this kind (TS 24.501 clauses 9.2, 9.4, 9.6 and 9.7).
-pub(crate) fn write_head(psi: u8, pti: u8, kind: SmKind, out: &mut Writer) -> Result<(), Full>
+// The head of a message of this kind (TS 24.501 clauses 9.2, 9.4, 9.6 and 9.7).
+fn write_head(psi: u8, pti: u8, kind: SmKind, out: &mut Writer) -> Result<(), Full>
     ensures { Writes (head psi pti (sm_type kind)) out.old out.new result }
 {
     out.put(&[EPD_5GSM, psi, pti, kind.code()])

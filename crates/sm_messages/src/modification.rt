@@ -1,113 +1,188 @@
 //! The messages of the modification of a PDU session.
-ghost use Rattle.std.specs.Prelude.{◌++◌};
-ghost use Rattle.nas_base.specs.Writing.{Writes};
-ghost use Rattle.nas_layout.specs.Layout.{Lays, laid};
-ghost use Rattle.sm_messages.specs.Modification.{modification_command, modification_command_layout, modification_command_reject_layout, modification_reject_layout, modification_request, modification_request_layout};
-ghost use Rattle.sm_messages.specs.Parts.{head};
+ghost use Rattle.nas_layout.specs.Answers.{Lays};
+ghost use Rattle.nas_layout.specs.ReadBack.{TableBack};
+ghost use Rattle.nas_layout.specs.Table.{pieces};
+ghost use Rattle.nas_layout.specs.Telling.{HearsAll};
+ghost use Rattle.sm_messages.specs.Modification.{pdu_session_modification_command, pdu_session_modification_command_reject, pdu_session_modification_reject, pdu_session_modification_request};
 
-use crate::elements;
-use crate::message::{Sm, write_head};
-use nas_base::{Full, Octets, Reader, Shape, SmKind, Writer, walk};
+use nas_base::{Form, Octets, Reader, Shape, walk};
 use nas_elements::Ambr;
 use nas_layout::{
-    BodyRefusal, fixed_row, octet_part, tlv, tlv_row, tlv_size, tlve, tlve_row, tlve_size, tv,
-    tv_size,
+    BodyRefusal, Frame, Pieces, Readable, element, fixed_row, iei, known, known_container, laws,
+    part, read_part, tlv_row, tlve_row,
 };
 use std::alloc::Global;
 
-/// Reads what stands behind the head of a PDU SESSION MODIFICATION REQUEST.
-#[tactic(auto, unfolding(crate::specs::Modification::modification_request_layout))]
-pub fn read_request(alloc: Global, reader: &mut Reader) -> Result<Sm, BodyRefusal>
-    ensures { Lays result (laid modification_request_layout 1 reader.old) }
-{
-    let found = walk(
-        reader.left(),
-        &Shape::from_slice(&[
-            fixed_row(0x59, 1),
-            tlve_row(0x7a),
-            fixed_row(0x55, 2),
-            fixed_row(0x13, 2),
-        ])
-        .unwrap(),
-    );
-    Ok(Sm::PduSessionModificationRequest {
-        cause: elements::cause(&found),
-        rules: elements::rules(alloc, &found)?,
-    })
+/// PDU SESSION MODIFICATION REQUEST (TS 24.501 clause 8.3.7).
+#[derive(Drop)]
+pub struct PduSessionModificationRequest {
+    pub cause: Option<u8>,
+    pub rules: Option<Octets>,
 }
 
-/// Writes a PDU SESSION MODIFICATION REQUEST.
-#[tactic(auto, unfolding(crate::specs::Modification::modification_request))]
-pub fn write_request(
-    psi: u8,
-    pti: u8,
-    cause: &Option<u8>,
-    rules: &Option<Octets>,
-    out: &mut Writer,
-) -> Result<(), Full>
-    ensures { Writes (head psi pti 0xc9 ++ modification_request cause.now rules.now) out.old out.new result }
-{
-    out.fits(4 + tv_size(cause) + tlve_size(rules))?;
-    write_head(psi, pti, SmKind::PduSessionModificationRequest, out)?;
-    tv(0x59, cause, out)?;
-    tlve(0x7a, rules, out)
+impl PduSessionModificationRequest {
+    // Reads what stands behind the head.
+    #[tactic(auto, unfolding(crate::specs::Modification::pdu_session_modification_request))]
+    pub(crate) fn read(
+        alloc: Global,
+        reader: &mut Reader,
+    ) -> Result<PduSessionModificationRequest, BodyRefusal>
+        ensures { Lays result pdu_session_modification_request 1 reader.old }
+    {
+        let found = walk(
+            reader.left(),
+            &Shape::from_slice(&[
+                fixed_row(iei::CAUSE_5GSM, 2),
+                tlve_row(iei::QOS_RULES),
+                fixed_row(iei::MAXIMUM_NUMBER_OF_SUPPORTED_PACKET_FILTERS, 3),
+                fixed_row(iei::INTEGRITY_PROTECTION_MAXIMUM_DATA_RATE, 3),
+            ])
+            .unwrap(),
+        );
+        Ok(PduSessionModificationRequest {
+            cause: known(iei::CAUSE_5GSM, &found),
+            rules: known_container(alloc, iei::QOS_RULES, &found)?,
+        })
+    }
+
+    // Tells what stands behind the head, piece by piece.
+    #[tactic(auto, unfolding(crate::specs::Modification::pdu_session_modification_request))]
+    pub(crate) fn tell<P: Pieces>(&self, to: &mut P) -> Result<(), P::Refusal>
+        ensures { HearsAll P.with_piece P.refuses to.old to.new (pieces pdu_session_modification_request self.now) result }
+    {
+        element(to, iei::CAUSE_5GSM, Form::Fixed(2), &self.cause)?;
+        element(to, iei::QOS_RULES, Form::Tlve, &self.rules)
+    }
+
+    // What is told is read back: this does nothing.
+    #[tactic(auto, unfolding(crate::specs::Modification::pdu_session_modification_request))]
+    pub(crate) fn is_read_back(&self)
+        ensures { TableBack pdu_session_modification_request self.now }
+    {
+        laws::octet_is_read_back(iei::CAUSE_5GSM, &self.cause);
+        laws::container_is_read_back(iei::QOS_RULES, &self.rules);
+    }
 }
 
-/// Reads what stands behind the head of a PDU SESSION MODIFICATION REJECT.
-#[tactic(auto, unfolding(crate::specs::Modification::modification_reject_layout))]
-pub fn read_reject(reader: &mut Reader) -> Result<Sm, BodyRefusal>
-    ensures { Lays result (laid modification_reject_layout 1 reader.old) }
-{
-    let cause = octet_part(1, reader)?;
-    Ok(Sm::PduSessionModificationReject { cause })
+/// PDU SESSION MODIFICATION REJECT (TS 24.501 clause 8.3.8).
+#[derive(Drop)]
+pub struct PduSessionModificationReject {
+    pub cause: u8,
 }
 
-/// Reads what stands behind the head of a PDU SESSION MODIFICATION COMMAND.
-#[tactic(auto, unfolding(crate::specs::Modification::modification_command_layout))]
-pub fn read_command(alloc: Global, reader: &mut Reader) -> Result<Sm, BodyRefusal>
-    ensures { Lays result (laid modification_command_layout 1 reader.old) }
-{
-    let found = walk(
-        reader.left(),
-        &Shape::from_slice(&[
-            fixed_row(0x59, 1),
-            tlv_row(0x2a),
-            tlve_row(0x7a),
-            fixed_row(0x56, 1),
-        ])
-        .unwrap(),
-    );
-    Ok(Sm::PduSessionModificationCommand {
-        cause: elements::cause(&found),
-        ambr: elements::ambr(&found),
-        rules: elements::rules(alloc, &found)?,
-    })
+impl PduSessionModificationReject {
+    // Reads what stands behind the head.
+    #[tactic(auto, unfolding(crate::specs::Modification::pdu_session_modification_reject))]
+    pub(crate) fn read(reader: &mut Reader) -> Result<PduSessionModificationReject, BodyRefusal>
+        ensures { Lays result pdu_session_modification_reject 1 reader.old }
+    {
+        let cause = read_part(1, Frame::V(1), reader)?;
+        Ok(PduSessionModificationReject { cause })
+    }
+
+    // Tells what stands behind the head, piece by piece.
+    #[tactic(auto, unfolding(crate::specs::Modification::pdu_session_modification_reject))]
+    pub(crate) fn tell<P: Pieces>(&self, to: &mut P) -> Result<(), P::Refusal>
+        ensures { HearsAll P.with_piece P.refuses to.old to.new (pieces pdu_session_modification_reject self.now) result }
+    {
+        part(to, Frame::V(1), &self.cause)
+    }
+
+    // What is told is read back: this does nothing.
+    #[tactic(auto, unfolding(crate::specs::Modification::pdu_session_modification_reject))]
+    pub(crate) fn is_read_back(&self)
+        ensures { TableBack pdu_session_modification_reject self.now }
+    {
+        self.cause.is_read_back();
+    }
 }
 
-/// Writes a PDU SESSION MODIFICATION COMMAND.
-#[tactic(auto, unfolding(crate::specs::Modification::modification_command))]
-pub fn write_command(
-    psi: u8,
-    pti: u8,
-    cause: &Option<u8>,
-    ambr: &Option<Ambr>,
-    rules: &Option<Octets>,
-    out: &mut Writer,
-) -> Result<(), Full>
-    ensures { Writes (head psi pti 0xcb ++ modification_command cause.now ambr.now rules.now) out.old out.new result }
-{
-    out.fits(4 + tv_size(cause) + tlv_size(ambr) + tlve_size(rules))?;
-    write_head(psi, pti, SmKind::PduSessionModificationCommand, out)?;
-    tv(0x59, cause, out)?;
-    tlv(0x2a, ambr, out)?;
-    tlve(0x7a, rules, out)
+/// PDU SESSION MODIFICATION COMMAND (TS 24.501 clause 8.3.9).
+#[derive(Drop)]
+pub struct PduSessionModificationCommand {
+    pub cause: Option<u8>,
+    pub ambr: Option<Ambr>,
+    pub rules: Option<Octets>,
 }
 
-/// Reads what stands behind the head of a PDU SESSION MODIFICATION COMMAND REJECT.
-#[tactic(auto, unfolding(crate::specs::Modification::modification_command_reject_layout))]
-pub fn read_command_reject(reader: &mut Reader) -> Result<Sm, BodyRefusal>
-    ensures { Lays result (laid modification_command_reject_layout 1 reader.old) }
-{
-    let cause = octet_part(1, reader)?;
-    Ok(Sm::PduSessionModificationCommandReject { cause })
+impl PduSessionModificationCommand {
+    // Reads what stands behind the head.
+    #[tactic(auto, unfolding(crate::specs::Modification::pdu_session_modification_command))]
+    pub(crate) fn read(
+        alloc: Global,
+        reader: &mut Reader,
+    ) -> Result<PduSessionModificationCommand, BodyRefusal>
+        ensures { Lays result pdu_session_modification_command 1 reader.old }
+    {
+        let found = walk(
+            reader.left(),
+            &Shape::from_slice(&[
+                fixed_row(iei::CAUSE_5GSM, 2),
+                tlv_row(iei::SESSION_AMBR),
+                tlve_row(iei::QOS_RULES),
+                fixed_row(iei::RQ_TIMER_VALUE, 2),
+            ])
+            .unwrap(),
+        );
+        Ok(PduSessionModificationCommand {
+            cause: known(iei::CAUSE_5GSM, &found),
+            ambr: known(iei::SESSION_AMBR, &found),
+            rules: known_container(alloc, iei::QOS_RULES, &found)?,
+        })
+    }
+
+    // Tells what stands behind the head, piece by piece.
+    #[tactic(auto, unfolding(crate::specs::Modification::pdu_session_modification_command))]
+    pub(crate) fn tell<P: Pieces>(&self, to: &mut P) -> Result<(), P::Refusal>
+        ensures { HearsAll P.with_piece P.refuses to.old to.new (pieces pdu_session_modification_command self.now) result }
+    {
+        element(to, iei::CAUSE_5GSM, Form::Fixed(2), &self.cause)?;
+        element(to, iei::SESSION_AMBR, Form::Tlv, &self.ambr)?;
+        element(to, iei::QOS_RULES, Form::Tlve, &self.rules)
+    }
+
+    // What is told is read back: this does nothing.
+    #[tactic(auto, unfolding(crate::specs::Modification::pdu_session_modification_command))]
+    pub(crate) fn is_read_back(&self)
+        ensures { TableBack pdu_session_modification_command self.now }
+    {
+        laws::octet_is_read_back(iei::CAUSE_5GSM, &self.cause);
+        laws::tlv_is_read_back(iei::SESSION_AMBR, &self.ambr);
+        laws::container_is_read_back(iei::QOS_RULES, &self.rules);
+    }
+}
+
+/// PDU SESSION MODIFICATION COMMAND REJECT (TS 24.501 clause 8.3.11).
+#[derive(Drop)]
+pub struct PduSessionModificationCommandReject {
+    pub cause: u8,
+}
+
+impl PduSessionModificationCommandReject {
+    // Reads what stands behind the head.
+    #[tactic(auto, unfolding(crate::specs::Modification::pdu_session_modification_command_reject))]
+    pub(crate) fn read(
+        reader: &mut Reader,
+    ) -> Result<PduSessionModificationCommandReject, BodyRefusal>
+        ensures { Lays result pdu_session_modification_command_reject 1 reader.old }
+    {
+        let cause = read_part(1, Frame::V(1), reader)?;
+        Ok(PduSessionModificationCommandReject { cause })
+    }
+
+    // Tells what stands behind the head, piece by piece.
+    #[tactic(auto, unfolding(crate::specs::Modification::pdu_session_modification_command_reject))]
+    pub(crate) fn tell<P: Pieces>(&self, to: &mut P) -> Result<(), P::Refusal>
+        ensures { HearsAll P.with_piece P.refuses to.old to.new (pieces pdu_session_modification_command_reject self.now) result }
+    {
+        part(to, Frame::V(1), &self.cause)
+    }
+
+    // What is told is read back: this does nothing.
+    #[tactic(auto, unfolding(crate::specs::Modification::pdu_session_modification_command_reject))]
+    pub(crate) fn is_read_back(&self)
+        ensures { TableBack pdu_session_modification_command_reject self.now }
+    {
+        self.cause.is_read_back();
+    }
 }

@@ -1,77 +1,153 @@
 //! The messages of the release of a PDU session.
-ghost use Rattle.std.specs.Prelude.{◌++◌};
-ghost use Rattle.nas_base.specs.Writing.{Writes};
-ghost use Rattle.nas_layout.specs.Layout.{Lays, laid};
-ghost use Rattle.sm_messages.specs.Parts.{head};
-ghost use Rattle.sm_messages.specs.Release.{release_command_layout, release_complete, release_complete_layout, release_reject_layout, release_request, release_request_layout};
+ghost use Rattle.nas_layout.specs.Answers.{Lays};
+ghost use Rattle.nas_layout.specs.ReadBack.{TableBack};
+ghost use Rattle.nas_layout.specs.Table.{pieces};
+ghost use Rattle.nas_layout.specs.Telling.{HearsAll};
+ghost use Rattle.sm_messages.specs.Release.{pdu_session_release_command, pdu_session_release_complete, pdu_session_release_reject, pdu_session_release_request};
 
-use crate::elements;
-use crate::message::{Sm, write_head};
-use nas_base::{Full, Reader, Shape, SmKind, Writer, walk};
-use nas_layout::{BodyRefusal, fixed_row, octet_part, tv, tv_size};
+use nas_base::{Form, Reader, Shape, walk};
+use nas_layout::{
+    BodyRefusal, Frame, Pieces, Readable, element, fixed_row, iei, known, laws, part, read_part,
+};
 
-/// Reads what stands behind the head of a PDU SESSION RELEASE REQUEST.
-#[tactic(auto, unfolding(crate::specs::Release::release_request_layout))]
-pub fn read_request(reader: &mut Reader) -> Result<Sm, BodyRefusal>
-    ensures { Lays result (laid release_request_layout 1 reader.old) }
-{
-    let found = walk(
-        reader.left(),
-        &Shape::from_slice(&[fixed_row(0x59, 1)]).unwrap(),
-    );
-    Ok(Sm::PduSessionReleaseRequest {
-        cause: elements::cause(&found),
-    })
+/// PDU SESSION RELEASE REQUEST (TS 24.501 clause 8.3.12).
+#[derive(Drop)]
+pub struct PduSessionReleaseRequest {
+    pub cause: Option<u8>,
 }
 
-/// Writes a PDU SESSION RELEASE REQUEST.
-#[tactic(auto, unfolding(crate::specs::Release::release_request))]
-pub fn write_request(psi: u8, pti: u8, cause: &Option<u8>, out: &mut Writer) -> Result<(), Full>
-    ensures { Writes (head psi pti 0xd1 ++ release_request cause.now) out.old out.new result }
-{
-    out.fits(4 + tv_size(cause))?;
-    write_head(psi, pti, SmKind::PduSessionReleaseRequest, out)?;
-    tv(0x59, cause, out)
+impl PduSessionReleaseRequest {
+    // Reads what stands behind the head.
+    #[tactic(auto, unfolding(crate::specs::Release::pdu_session_release_request))]
+    pub(crate) fn read(reader: &mut Reader) -> Result<PduSessionReleaseRequest, BodyRefusal>
+        ensures { Lays result pdu_session_release_request 1 reader.old }
+    {
+        let found = walk(
+            reader.left(),
+            &Shape::from_slice(&[fixed_row(iei::CAUSE_5GSM, 2)]).unwrap(),
+        );
+        Ok(PduSessionReleaseRequest {
+            cause: known(iei::CAUSE_5GSM, &found),
+        })
+    }
+
+    // Tells what stands behind the head, piece by piece.
+    #[tactic(auto, unfolding(crate::specs::Release::pdu_session_release_request))]
+    pub(crate) fn tell<P: Pieces>(&self, to: &mut P) -> Result<(), P::Refusal>
+        ensures { HearsAll P.with_piece P.refuses to.old to.new (pieces pdu_session_release_request self.now) result }
+    {
+        element(to, iei::CAUSE_5GSM, Form::Fixed(2), &self.cause)
+    }
+
+    // What is told is read back: this does nothing.
+    #[tactic(auto, unfolding(crate::specs::Release::pdu_session_release_request))]
+    pub(crate) fn is_read_back(&self)
+        ensures { TableBack pdu_session_release_request self.now }
+    {
+        laws::octet_is_read_back(iei::CAUSE_5GSM, &self.cause);
+    }
 }
 
-/// Reads what stands behind the head of a PDU SESSION RELEASE REJECT.
-#[tactic(auto, unfolding(crate::specs::Release::release_reject_layout))]
-pub fn read_reject(reader: &mut Reader) -> Result<Sm, BodyRefusal>
-    ensures { Lays result (laid release_reject_layout 1 reader.old) }
-{
-    let cause = octet_part(1, reader)?;
-    Ok(Sm::PduSessionReleaseReject { cause })
+/// PDU SESSION RELEASE REJECT (TS 24.501 clause 8.3.13).
+#[derive(Drop)]
+pub struct PduSessionReleaseReject {
+    pub cause: u8,
 }
 
-/// Reads what stands behind the head of a PDU SESSION RELEASE COMMAND.
-#[tactic(auto, unfolding(crate::specs::Release::release_command_layout))]
-pub fn read_command(reader: &mut Reader) -> Result<Sm, BodyRefusal>
-    ensures { Lays result (laid release_command_layout 1 reader.old) }
-{
-    let cause = octet_part(1, reader)?;
-    Ok(Sm::PduSessionReleaseCommand { cause })
+impl PduSessionReleaseReject {
+    // Reads what stands behind the head.
+    #[tactic(auto, unfolding(crate::specs::Release::pdu_session_release_reject))]
+    pub(crate) fn read(reader: &mut Reader) -> Result<PduSessionReleaseReject, BodyRefusal>
+        ensures { Lays result pdu_session_release_reject 1 reader.old }
+    {
+        let cause = read_part(1, Frame::V(1), reader)?;
+        Ok(PduSessionReleaseReject { cause })
+    }
+
+    // Tells what stands behind the head, piece by piece.
+    #[tactic(auto, unfolding(crate::specs::Release::pdu_session_release_reject))]
+    pub(crate) fn tell<P: Pieces>(&self, to: &mut P) -> Result<(), P::Refusal>
+        ensures { HearsAll P.with_piece P.refuses to.old to.new (pieces pdu_session_release_reject self.now) result }
+    {
+        part(to, Frame::V(1), &self.cause)
+    }
+
+    // What is told is read back: this does nothing.
+    #[tactic(auto, unfolding(crate::specs::Release::pdu_session_release_reject))]
+    pub(crate) fn is_read_back(&self)
+        ensures { TableBack pdu_session_release_reject self.now }
+    {
+        self.cause.is_read_back();
+    }
 }
 
-/// Reads what stands behind the head of a PDU SESSION RELEASE COMPLETE.
-#[tactic(auto, unfolding(crate::specs::Release::release_complete_layout))]
-pub fn read_complete(reader: &mut Reader) -> Result<Sm, BodyRefusal>
-    ensures { Lays result (laid release_complete_layout 1 reader.old) }
-{
-    let found = walk(
-        reader.left(),
-        &Shape::from_slice(&[fixed_row(0x59, 1)]).unwrap(),
-    );
-    Ok(Sm::PduSessionReleaseComplete {
-        cause: elements::cause(&found),
-    })
+/// PDU SESSION RELEASE COMMAND (TS 24.501 clause 8.3.14).
+#[derive(Drop)]
+pub struct PduSessionReleaseCommand {
+    pub cause: u8,
 }
 
-/// Writes a PDU SESSION RELEASE COMPLETE.
-#[tactic(auto, unfolding(crate::specs::Release::release_complete))]
-pub fn write_complete(psi: u8, pti: u8, cause: &Option<u8>, out: &mut Writer) -> Result<(), Full>
-    ensures { Writes (head psi pti 0xd4 ++ release_complete cause.now) out.old out.new result }
-{
-    out.fits(4 + tv_size(cause))?;
-    write_head(psi, pti, SmKind::PduSessionReleaseComplete, out)?;
-    tv(0x59, cause, out)
+impl PduSessionReleaseCommand {
+    // Reads what stands behind the head.
+    #[tactic(auto, unfolding(crate::specs::Release::pdu_session_release_command))]
+    pub(crate) fn read(reader: &mut Reader) -> Result<PduSessionReleaseCommand, BodyRefusal>
+        ensures { Lays result pdu_session_release_command 1 reader.old }
+    {
+        let cause = read_part(1, Frame::V(1), reader)?;
+        Ok(PduSessionReleaseCommand { cause })
+    }
+
+    // Tells what stands behind the head, piece by piece.
+    #[tactic(auto, unfolding(crate::specs::Release::pdu_session_release_command))]
+    pub(crate) fn tell<P: Pieces>(&self, to: &mut P) -> Result<(), P::Refusal>
+        ensures { HearsAll P.with_piece P.refuses to.old to.new (pieces pdu_session_release_command self.now) result }
+    {
+        part(to, Frame::V(1), &self.cause)
+    }
+
+    // What is told is read back: this does nothing.
+    #[tactic(auto, unfolding(crate::specs::Release::pdu_session_release_command))]
+    pub(crate) fn is_read_back(&self)
+        ensures { TableBack pdu_session_release_command self.now }
+    {
+        self.cause.is_read_back();
+    }
+}
+
+/// PDU SESSION RELEASE COMPLETE (TS 24.501 clause 8.3.15).
+#[derive(Drop)]
+pub struct PduSessionReleaseComplete {
+    pub cause: Option<u8>,
+}
+
+impl PduSessionReleaseComplete {
+    // Reads what stands behind the head.
+    #[tactic(auto, unfolding(crate::specs::Release::pdu_session_release_complete))]
+    pub(crate) fn read(reader: &mut Reader) -> Result<PduSessionReleaseComplete, BodyRefusal>
+        ensures { Lays result pdu_session_release_complete 1 reader.old }
+    {
+        let found = walk(
+            reader.left(),
+            &Shape::from_slice(&[fixed_row(iei::CAUSE_5GSM, 2)]).unwrap(),
+        );
+        Ok(PduSessionReleaseComplete {
+            cause: known(iei::CAUSE_5GSM, &found),
+        })
+    }
+
+    // Tells what stands behind the head, piece by piece.
+    #[tactic(auto, unfolding(crate::specs::Release::pdu_session_release_complete))]
+    pub(crate) fn tell<P: Pieces>(&self, to: &mut P) -> Result<(), P::Refusal>
+        ensures { HearsAll P.with_piece P.refuses to.old to.new (pieces pdu_session_release_complete self.now) result }
+    {
+        element(to, iei::CAUSE_5GSM, Form::Fixed(2), &self.cause)
+    }
+
+    // What is told is read back: this does nothing.
+    #[tactic(auto, unfolding(crate::specs::Release::pdu_session_release_complete))]
+    pub(crate) fn is_read_back(&self)
+        ensures { TableBack pdu_session_release_complete self.now }
+    {
+        laws::octet_is_read_back(iei::CAUSE_5GSM, &self.cause);
+    }
 }

@@ -1,16 +1,42 @@
 //! 5GSM STATUS.
-ghost use Rattle.nas_layout.specs.Layout.{Lays, laid};
-ghost use Rattle.sm_messages.specs.StatusMessage.{five_gsm_status_layout};
+ghost use Rattle.nas_layout.specs.Answers.{Lays};
+ghost use Rattle.nas_layout.specs.ReadBack.{TableBack};
+ghost use Rattle.nas_layout.specs.Table.{pieces};
+ghost use Rattle.nas_layout.specs.Telling.{HearsAll};
+ghost use Rattle.sm_messages.specs.StatusMessage.{five_gsm_status};
 
-use crate::Sm;
 use nas_base::Reader;
-use nas_layout::{BodyRefusal, octet_part};
+use nas_layout::{BodyRefusal, Frame, Pieces, Readable, part, read_part};
 
-/// Reads what stands behind the head of a 5GSM STATUS.
-#[tactic(auto, unfolding(crate::specs::StatusMessage::five_gsm_status_layout))]
-pub fn read(reader: &mut Reader) -> Result<Sm, BodyRefusal>
-    ensures { Lays result (laid five_gsm_status_layout 1 reader.old) }
-{
-    let cause = octet_part(1, reader)?;
-    Ok(Sm::FiveGsmStatus { cause })
+/// 5GSM STATUS (TS 24.501 clause 8.3.16).
+#[derive(Drop)]
+pub struct FiveGsmStatus {
+    pub cause: u8,
+}
+
+impl FiveGsmStatus {
+    // Reads what stands behind the head.
+    #[tactic(auto, unfolding(crate::specs::StatusMessage::five_gsm_status))]
+    pub(crate) fn read(reader: &mut Reader) -> Result<FiveGsmStatus, BodyRefusal>
+        ensures { Lays result five_gsm_status 1 reader.old }
+    {
+        let cause = read_part(1, Frame::V(1), reader)?;
+        Ok(FiveGsmStatus { cause })
+    }
+
+    // Tells what stands behind the head, piece by piece.
+    #[tactic(auto, unfolding(crate::specs::StatusMessage::five_gsm_status))]
+    pub(crate) fn tell<P: Pieces>(&self, to: &mut P) -> Result<(), P::Refusal>
+        ensures { HearsAll P.with_piece P.refuses to.old to.new (pieces five_gsm_status self.now) result }
+    {
+        part(to, Frame::V(1), &self.cause)
+    }
+
+    // What is told is read back: this does nothing.
+    #[tactic(auto, unfolding(crate::specs::StatusMessage::five_gsm_status))]
+    pub(crate) fn is_read_back(&self)
+        ensures { TableBack five_gsm_status self.now }
+    {
+        self.cause.is_read_back();
+    }
 }

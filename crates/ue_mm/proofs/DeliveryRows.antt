@@ -1,15 +1,16 @@
 -- What octets that reach a handset start, stop and say.
 use Rattle.std.proofs.Common.{◌≡◌, refl, ℕ, ◌==◌, ◌||◌, Bool, false, not, List, drop, length, nat_lt, Option, None, Result, Ok, Err, slice_index_or}
 use Rattle.nas_base.specs.Branches.{per, when◌then◌else◌}
+use Rattle.nas_base.specs.declared.mm_cause.TheConstants as cause
 use Rattle.nas_elements.specs.declared.asi.Asi.{Asi}
 use Rattle.nas_security.specs.Contexts.{SecurityContext}
 use Rattle.collision_rules.specs.declared.action.Action.{Action}
 use Rattle.collision_rules.specs.declared.action.Action.TheVariants.{Take, Discard, Status98, Status43, Status47}
 use Rattle.mm_messages.specs.Messages.{mm_in}
 use Rattle.mm_messages.specs.declared.message.Mm.{Mm}
-use Rattle.mm_messages.specs.declared.message.Mm.TheVariants.{FiveGmmStatus, SecurityModeReject}
 use Rattle.mm_messages.specs.declared.message.MmRefusal.{MmRefusal}
 use Rattle.mm_messages.specs.declared.message.MmRefusal.TheVariants as refusals
+use Rattle.mm_messages.specs.declared.security_mode.SecurityModeCommand.{SecurityModeCommand}
 use Rattle.ue_mm.specs.Checks.{Opened, counted, noted, opened, with_count}
 use Rattle.ue_mm.specs.Delivery.{action, by_table, command_of, delivered, five_gmm_status, header_of, is_permitted_type, is_plain_allowed, new_context, passed, passed_read, plain, plain_by_table, plain_read, protected}
 use Rattle.ue_mm.specs.Laws.{running_in}
@@ -17,7 +18,6 @@ use Rattle.ue_mm.specs.SecurityMode.{are_supported, command_completed, command_p
 use Rattle.ue_mm.specs.State.{is_deregistering}
 use Rattle.ue_mm.specs.Work.{status}
 use Rattle.ue_mm.specs.declared.common.Pending.{Pending}
-use Rattle.ue_mm.specs.declared.security_mode.Command.{Command}
 use Rattle.ue_mm.specs.declared.work.Work.{Work}
 use Rattle.ue_mm.proofs.Branching.{per_holds, when_holds}
 use Rattle.ue_mm.proofs.MessageRows.{taken_is_done}
@@ -37,7 +37,7 @@ counted_is_begun s link context n w h = record { said = simp (onto, h.said); lin
 by_table_is_done : (s : Summary) (link : Bool) (a : Action) (m : Mm) (w : Work) → action m w ≡ a → IsBegun s link (running_in w.phase) w
     → IsDone s link (by_table a m w)
 by_table_is_done s link Take m w e h = taken_is_done s link m w e h
-by_table_is_done s link Status98 m w e h = answer_is_done s link w (FiveGmmStatus 98) h
+by_table_is_done s link Status98 m w e h = answer_is_done s link w _ h
 by_table_is_done s link Discard m w e h = begun_is_done s link w h
 by_table_is_done s link Status43 m w e h = begun_is_done s link w h
 by_table_is_done s link Status47 m w e h = begun_is_done s link w h
@@ -46,10 +46,10 @@ read_is_done : (s : Summary) (link : Bool) (read : Result Mm MmRefusal) (octets 
     → IsDone s link (passed_read read octets w)
 read_is_done s link (Ok m) octets w h = by_table_is_done s link (action m w) m w refl h
 read_is_done s link (Err (refusals.Ignored at)) octets w h = begun_is_done s link w h
-read_is_done s link (Err (refusals.UnknownType n)) octets w h = answer_is_done s link w (FiveGmmStatus 97) h
+read_is_done s link (Err (refusals.UnknownType n)) octets w h = answer_is_done s link w _ h
 read_is_done s link (Err (refusals.Mandatory n at)) octets w h =
-    when_holds (λ (x : Work). IsDone s link x) (slice_index_or octets 2 0 == five_gmm_status) w (status 96 w)
-    (λ _. begun_is_done s link w h) (λ _. answer_is_done s link w (FiveGmmStatus 96) h)
+    when_holds (λ (x : Work). IsDone s link x) (slice_index_or octets 2 0 == five_gmm_status) w (status cause.INVALID_MANDATORY_INFORMATION w)
+    (λ _. begun_is_done s link w h) (λ _. answer_is_done s link w _ h)
 read_is_done s link (Err refusals.Memory) octets w h = begun_is_done s link w h
 
 passed_is_done : (s : Summary) (link : Bool) (octets : List ℕ) (w : Work) → IsBegun s link (running_in w.phase) w
@@ -72,10 +72,10 @@ plain_read_is_done s link (Ok m) octets w h =
     when_holds (λ (x : Work). IsDone s link x) (is_plain_allowed m) (plain_by_table (action m w) m w) w
     (λ _. plain_table_is_done s link (action m w) m w refl h) (λ _. begun_is_done s link w h)
 plain_read_is_done s link (Err (refusals.Ignored at)) octets w h = begun_is_done s link w h
-plain_read_is_done s link (Err (refusals.UnknownType n)) octets w h = answer_is_done s link w (FiveGmmStatus 97) h
+plain_read_is_done s link (Err (refusals.UnknownType n)) octets w h = answer_is_done s link w _ h
 plain_read_is_done s link (Err (refusals.Mandatory n at)) octets w h =
-    when_holds (λ (x : Work). IsDone s link x) (is_permitted_type (slice_index_or octets 2 0)) (status 96 w) w
-    (λ _. answer_is_done s link w (FiveGmmStatus 96) h) (λ _. begun_is_done s link w h)
+    when_holds (λ (x : Work). IsDone s link x) (is_permitted_type (slice_index_or octets 2 0)) (status cause.INVALID_MANDATORY_INFORMATION w) w
+    (λ _. answer_is_done s link w _ h) (λ _. begun_is_done s link w h)
 plain_read_is_done s link (Err refusals.Memory) octets w h = begun_is_done s link w h
 
 plain_is_done : (s : Summary) (link : Bool) (octets : List ℕ) (w : Work) → IsBegun s link (running_in w.phase) w
@@ -86,33 +86,33 @@ plain_is_done s link octets w h =
     (λ _. begun_is_done s link w h) (λ _. plain_read_is_done s link (mm_in octets) octets w h)
 
 -- SECURITY MODE COMMAND
-completed_is_done : (s : Summary) (link : Bool) (information : Option Asi) (w : Work) → IsBegun s link (running_in w.phase) w
-    → IsDone s link (command_completed information w)
+completed_is_done : (s : Summary) (link : Bool) (asi : Option Asi) (w : Work) → IsBegun s link (running_in w.phase) w
+    → IsDone s link (command_completed asi w)
 unfolding command_completed
-completed_is_done s link information w h =
+completed_is_done s link asi w h =
     quiet_is_done s link _ (say_is_quiet s link (running_in w.phase) w false _ _ (not_fresh link) h)
 
-into_use_is_done : (s : Summary) (link : Bool) (command : Command) (context : SecurityContext) (w : Work) → IsBegun s link (running_in w.phase) w
+into_use_is_done : (s : Summary) (link : Bool) (command : SecurityModeCommand) (context : SecurityContext) (w : Work) → IsBegun s link (running_in w.phase) w
     → IsDone s link (taken_into_use command context w)
 into_use_is_done s link command context w h =
-    completed_is_done s link command.information _ (record { said = simp (onto, h.said); linked = h.linked })
+    completed_is_done s link command.asi _ (record { said = simp (onto, h.said); linked = h.linked })
 
-command_passed_is_done : (s : Summary) (link : Bool) (command : Command) (context : SecurityContext) (w : Work)
+command_passed_is_done : (s : Summary) (link : Bool) (command : SecurityModeCommand) (context : SecurityContext) (w : Work)
     → IsBegun s link (running_in w.phase) w → IsDone s link (command_passed command context w)
 unfolding command_passed
 command_passed_is_done s link command context w h =
     when_holds (λ (x : Work). IsDone s link x) (is_acceptable command w.common.config) (taken_into_use command context w) _
     (λ _. into_use_is_done s link command context w h)
-    (λ _. answer_is_done s link (record w { common = record w.common { pending = None } }) (SecurityModeReject 23)
+    (λ _. answer_is_done s link (record w { common = record w.common { pending = None } }) _
     (record { said = h.said; linked = h.linked }))
 
-repeated_is_done : (s : Summary) (link : Bool) (command : Command) (w : Work) → IsBegun s link (running_in w.phase) w
+repeated_is_done : (s : Summary) (link : Bool) (command : SecurityModeCommand) (w : Work) → IsBegun s link (running_in w.phase) w
     → IsDone s link (command_repeated command w)
 repeated_is_done s link command w h =
-    when_holds (λ (x : Work). IsDone s link x) (is_deregistering w.phase) w (command_completed command.information w)
-    (λ _. begun_is_done s link w h) (λ _. completed_is_done s link command.information w h)
+    when_holds (λ (x : Work). IsDone s link x) (is_deregistering w.phase) w (command_completed command.asi w)
+    (λ _. begun_is_done s link w h) (λ _. completed_is_done s link command.asi w h)
 
-picked_is_done : (s : Summary) (link : Bool) (command : Command) (octets : List ℕ) (w : Work) → IsBegun s link (running_in w.phase) w
+picked_is_done : (s : Summary) (link : Bool) (command : SecurityModeCommand) (octets : List ℕ) (w : Work) → IsBegun s link (running_in w.phase) w
     → IsDone s link (command_picked command octets w)
 picked_is_done s link command octets w h =
     per_holds (λ (x : Work). IsDone s link x) (picked_pending command.ksi w)

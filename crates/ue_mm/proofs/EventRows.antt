@@ -4,7 +4,7 @@ use Rattle.nas_base.specs.Branches.{when◌then◌else◌}
 use Rattle.nas_base.specs.declared.kind.Kind.{Kind}
 use Rattle.nas_base.specs.declared.kind.Kind.TheVariants as kinds
 use Rattle.nas_timers.specs.declared.timer_id.TimerId.{TimerId}
-use Rattle.nas_timers.specs.declared.timer_id.TimerId.TheVariants.{T3510, T3516, T3517, T3521, T3522, T3550, T3560, T3580, T3581, T3582, T3591, T3592}
+use Rattle.nas_timers.specs.declared.timer_id.TimerId.TheVariants.{T3510, T3516, T3517, T3521, T3522, T3550, T3555, T3560, T3580, T3581, T3582, T3591, T3592}
 use Rattle.ue_mm.specs.Commands.{begun, commanded, is_deregistered, is_only_registered, is_spent, may_begin}
 use Rattle.ue_mm.specs.Connection.{deregistered, idle}
 use Rattle.ue_mm.specs.Deregistration.{deregister, deregistering, deregistration_expired, deregistration_request, leaving}
@@ -161,6 +161,7 @@ expiry_is_done s link T3517 w h = service_expiry s link w.phase w refl h
 expiry_is_done s link T3521 w h = leaving_expiry s link w.phase w refl h
 expiry_is_done s link T3522 w h = begun_is_done s link w h
 expiry_is_done s link T3550 w h = begun_is_done s link w h
+expiry_is_done s link T3555 w h = begun_is_done s link w h
 expiry_is_done s link T3560 w h = begun_is_done s link w h
 expiry_is_done s link (T3580 psi) w h = begun_is_done s link w h
 expiry_is_done s link (T3581 psi) w h = begun_is_done s link w h

@@ -9,7 +9,7 @@ use Rattle.nas_elements.specs.Suci.{SuciParts, suci_octets}
 use Rattle.nas_elements.specs.declared.identity.Identity.{Identity}
 use Rattle.mm_messages.specs.Messages.{spelling}
 use Rattle.mm_messages.specs.Registration.{registration_request}
-use Rattle.mm_messages.specs.declared.message.Mm.TheVariants.{RegistrationRequest}
+use Rattle.mm_messages.specs.declared.message.Mm.TheVariants as mm
 use Rattle.mm_messages.specs.declared.registration.RegistrationType.{RegistrationType}
 
 pub suci_fits : (s : SuciParts) → are_digits 9 10 s.msin ≡ true → length (suci_octets s) ≤ 18
@@ -19,7 +19,7 @@ suci_fits s msin =
 
 pub request_fits : (registration : RegistrationType) (ksi : ℕ) (identity : Identity) (capability : List ℕ) (sessions : Option (List Bool)) →
     length (identity_octets identity) ≤ 18 → length capability ≤ 8 →
-    length (spelling (RegistrationRequest registration ksi identity (Some capability) sessions)) ≤ 4096
+    length (spelling (mm.RegistrationRequest (record { registration = registration; ksi = ksi; identity = identity; capability = Some capability; status = sessions }))) ≤ 4096
 unfolding registration_request
 request_fits registration ksi identity capability None named short = grind (arith, common_steps)
 request_fits registration ksi identity capability (Some held) named short = grind (arith, common_steps)

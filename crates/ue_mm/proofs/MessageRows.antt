@@ -1,5 +1,6 @@
 -- What messages of the network start, stop and say.
 use Rattle.std.proofs.Common.{◌≡◌, refl, sym, ap, subst, ◌∙◌, inl, ℕ, ◌==◌, ◌||◌, Bool, true, false, List, [], ◌∷◌, Option, Some, None}
+use Rattle.nas_base.specs.declared.mm_cause.TheConstants as cause
 use Rattle.nas_base.specs.declared.kind.Kind.{Kind}
 use Rattle.nas_base.specs.declared.kind.Kind.TheVariants as kinds
 use Rattle.nas_base.specs.declared.mm_kind.MmKind.TheVariants as mm_kinds
@@ -10,8 +11,14 @@ use Rattle.milenage.specs.declared.autn.AutnAnswer.{AutnAnswer}
 use Rattle.milenage.specs.declared.autn.AutnAnswer.TheVariants.{Accepted, MacFailure, NotFiveG, SynchFailure}
 use Rattle.nas_elements.specs.declared.guti.Guti.{Guti}
 use Rattle.nas_timers.specs.declared.timer_id.TimerId.TheVariants.{T3510, T3516, T3517}
+use Rattle.mm_messages.specs.declared.authentication.AuthenticationRequest.{AuthenticationRequest}
+use Rattle.mm_messages.specs.declared.identification.IdentityRequest.{IdentityRequest}
 use Rattle.mm_messages.specs.declared.message.Mm.{Mm}
-use Rattle.mm_messages.specs.declared.message.Mm.TheVariants.{RegistrationRequest, RegistrationAccept, RegistrationComplete, RegistrationReject, DeregistrationRequestUeOriginating, DeregistrationAcceptUeOriginating, DeregistrationRequestUeTerminated, DeregistrationAcceptUeTerminated, ServiceRequest, ServiceReject, ServiceAccept, ConfigurationUpdateCommand, ConfigurationUpdateComplete, AuthenticationRequest, AuthenticationResponse, AuthenticationReject, AuthenticationFailure, IdentityRequest, IdentityResponse, SecurityModeCommand, SecurityModeComplete, SecurityModeReject, FiveGmmStatus, UlNasTransport, DlNasTransport}
+use Rattle.mm_messages.specs.declared.message.Mm.TheVariants as mm
+use Rattle.mm_messages.specs.declared.registration.RegistrationAccept.{RegistrationAccept}
+use Rattle.mm_messages.specs.declared.registration.RegistrationReject.{RegistrationReject}
+use Rattle.mm_messages.specs.declared.service.ServiceReject.{ServiceReject}
+use Rattle.mm_messages.specs.declared.transport.DlNasTransport.{DlNasTransport}
 use Rattle.ue_mm.specs.Authentication.{accepted, answer_again, answered, authentication_requested, challenged, failure, is_ksi_refused}
 use Rattle.ue_mm.specs.Connection.{deregistered, erased}
 use Rattle.ue_mm.specs.Delivery.{action, taken}
@@ -44,36 +51,36 @@ accepted_is_done s link r n res ck ik w h =
 answered_is_done : (s : Summary) (link : Bool) (a : AutnAnswer) (r : Request) (w : Work) → IsBegun s link (running_in w.phase) w
     → IsDone s link (answered a r w)
 answered_is_done s link (Accepted n res ck ik ak) r w h = accepted_is_done s link r n res ck ik w h
-answered_is_done s link MacFailure r w h = answer_is_done s link w (AuthenticationFailure 20 None) h
-answered_is_done s link NotFiveG r w h = answer_is_done s link w (AuthenticationFailure 26 None) h
-answered_is_done s link (SynchFailure auts) r w h = answer_is_done s link w (AuthenticationFailure 21 (Some auts)) h
+answered_is_done s link MacFailure r w h = answer_is_done s link w _ h
+answered_is_done s link NotFiveG r w h = answer_is_done s link w _ h
+answered_is_done s link (SynchFailure auts) r w h = answer_is_done s link w _ h
 
 challenged_is_done : (s : Summary) (link : Bool) (r : Request) (w : Work) → IsBegun s link (running_in w.phase) w
     → IsDone s link (challenged r w)
 unfolding challenged
 challenged_is_done s link r w h =
     per_holds (λ (x : Work). IsDone s link x) (answer_again w.common.stored r) _ _
-    (λ _. when_holds (λ (x : Work). IsDone s link x) (is_ksi_refused w.common.current r.ksi) (failure 71 None w) _
-    (λ _. answer_is_done s link w (AuthenticationFailure 71 None) h)
+    (λ _. when_holds (λ (x : Work). IsDone s link x) (is_ksi_refused w.common.current r.ksi) (failure cause.NGKSI_ALREADY_IN_USE None w) _
+    (λ _. answer_is_done s link w _ h)
     (λ _. answered_is_done s link (checked w.common.config.k w.common.config.opc r.rand r.autn w.common.sqn) r w h))
-    (λ res_star _. answer_is_done s link w (AuthenticationResponse (Some res_star)) h)
+    (λ res_star _. answer_is_done s link w _ h)
 
-authentication_is_done : (s : Summary) (link : Bool) (ksi : ℕ) (abba : List ℕ) (rand autn : Option (List ℕ)) (w : Work)
-    → IsBegun s link (running_in w.phase) w → IsDone s link (authentication_requested ksi abba rand autn w)
+authentication_is_done : (s : Summary) (link : Bool) (m : AuthenticationRequest) (w : Work) → IsBegun s link (running_in w.phase) w
+    → IsDone s link (authentication_requested m w)
 unfolding authentication_requested
-authentication_is_done s link ksi abba rand autn w h =
-    per_holds (λ (x : Work). IsDone s link x) rand (status 111 w) _
-    (λ _. answer_is_done s link w (FiveGmmStatus 111) h)
-    (λ x _. per_holds (λ (y : Work). IsDone s link y) autn (status 111 w) _
-    (λ _. answer_is_done s link w (FiveGmmStatus 111) h)
-    (λ y _. challenged_is_done s link _ w h))
+authentication_is_done s link m w h =
+    per_holds (λ (x : Work). IsDone s link x) m.rand (status cause.PROTOCOL_ERROR_UNSPECIFIED w) _
+    (λ _. answer_is_done s link w _ h)
+    (λ rand _. per_holds (λ (x : Work). IsDone s link x) m.autn (status cause.PROTOCOL_ERROR_UNSPECIFIED w) _
+    (λ _. answer_is_done s link w _ h)
+    (λ autn _. challenged_is_done s link _ w h))
 
-identity_is_done : (s : Summary) (link : Bool) (identity_type : ℕ) (w : Work) → IsBegun s link (running_in w.phase) w
-    → IsDone s link (identity_requested identity_type w)
+identity_is_done : (s : Summary) (link : Bool) (m : IdentityRequest) (w : Work) → IsBegun s link (running_in w.phase) w
+    → IsDone s link (identity_requested m w)
 unfolding identity_requested
-identity_is_done s link identity_type w h =
-    when_holds (λ (x : Work). IsDone s link x) (identity_type == 1) _ (status 111 w)
-    (λ _. answer_is_done s link w _ h) (λ _. answer_is_done s link w (FiveGmmStatus 111) h)
+identity_is_done s link m w h =
+    when_holds (λ (x : Work). IsDone s link x) (m.identity_type == 1) _ (status cause.PROTOCOL_ERROR_UNSPECIFIED w)
+    (λ _. answer_is_done s link w _ h) (λ _. answer_is_done s link w _ h)
 
 -- a 5G-GUTI that is taken is answered, and nothing else
 named_is_quiet : (s : Summary) (link : Bool) (guti : Option Guti) (w : Work) → IsBegun s link (running_in w.phase) w
@@ -81,7 +88,7 @@ named_is_quiet : (s : Summary) (link : Bool) (guti : Option Guti) (w : Work) →
 named_is_quiet s link guti w h =
     per_holds (λ (x : Work). IsQuiet s link (running_in w.phase) x) guti w _
     (λ _. begun_is_quiet s link (running_in w.phase) w h)
-    (λ g _. answer_is_quiet s link (running_in w.phase) (record w { common = record w.common { guti = Some g } }) RegistrationComplete
+    (λ g _. answer_is_quiet s link (running_in w.phase) (record w { common = record w.common { guti = Some g } }) mm.RegistrationComplete
     (record { said = h.said; linked = h.linked }))
 
 named_is_done : (s : Summary) (link : Bool) (guti : Option Guti) (w : Work) → IsBegun s link (running_in w.phase) w
@@ -89,7 +96,7 @@ named_is_done : (s : Summary) (link : Bool) (guti : Option Guti) (w : Work) → 
 named_is_done s link guti w h =
     per_holds (λ (x : Work). IsDone s link x) guti w _
     (λ _. begun_is_done s link w h)
-    (λ g _. answer_is_done s link (record w { common = record w.common { guti = Some g } }) RegistrationComplete
+    (λ g _. answer_is_done s link (record w { common = record w.common { guti = Some g } }) mm.RegistrationComplete
     (record { said = h.said; linked = h.linked }))
 
 -- a registration that ends has its timer stopped
@@ -122,16 +129,16 @@ with_timers : (s : Summary) (link : Bool) (running other : Running) (w : Work) �
     → IsQuiet s link other w
 with_timers s link running other w e h = record { runs = h.runs ∙ e; quiet = h.quiet; few = h.few }
 
-registration_is_done : (s : Summary) (link : Bool) (guti : Option Guti) (sessions : Option (List Bool)) (w : Work)
-    → IsBegun s link (running_in w.phase) w → IsDone s link (registration_accepted guti sessions w)
+registration_is_done : (s : Summary) (link : Bool) (m : RegistrationAccept) (w : Work) → IsBegun s link (running_in w.phase) w
+    → IsDone s link (registration_accepted m w)
 unfolding registration_accepted
-registration_is_done s link guti sessions w h =
-    per_holds (λ (x : Work). IsDone s link x) (open_registration w.phase) (named guti w) _
-    (λ _. named_is_done s link guti w h)
-    (λ r e. kept_is_done s link sessions (record (stop T3516 (stop T3510 (named guti w))) { phase = Registered })
-    (registered_is_quiet s link (named guti w)
-    (with_timers s link (running_in w.phase) (with_timer T3510 true no_timer) (named guti w) (of_registration w.phase r e)
-    (named_is_quiet s link guti w h))))
+registration_is_done s link m w h =
+    per_holds (λ (x : Work). IsDone s link x) (open_registration w.phase) (named m.guti w) _
+    (λ _. named_is_done s link m.guti w h)
+    (λ r e. kept_is_done s link m.status (record (stop T3516 (stop T3510 (named m.guti w))) { phase = Registered })
+    (registered_is_quiet s link (named m.guti w)
+    (with_timers s link (running_in w.phase) (with_timer T3510 true no_timer) (named m.guti w) (of_registration w.phase r e)
+    (named_is_quiet s link m.guti w h))))
 
 -- a handset that is rejected is no longer registered
 deregisters : (s : Summary) (link : Bool) (w : Work) → IsBegun s link (running_in w.phase) w → IsDone s link (deregistered w)
@@ -140,11 +147,12 @@ deregisters s link w h = deregistered_is_done s link (running_in w.phase) w (beg
 erases : (s : Summary) (link : Bool) (w : Work) → IsBegun s link (running_in w.phase) w → IsDone s link (erased (deregistered w))
 erases s link w h = erased_is_done s link (deregistered w) (deregisters s link w h)
 
-rejection_is_done : (s : Summary) (link : Bool) (cause : ℕ) (w : Work) → IsBegun s link (running_in w.phase) w
-    → IsDone s link (registration_rejected cause w)
+rejection_is_done : (s : Summary) (link : Bool) (m : RegistrationReject) (w : Work) → IsBegun s link (running_in w.phase) w
+    → IsDone s link (registration_rejected m w)
 unfolding registration_rejected
-rejection_is_done s link cause w h =
-    when_holds (λ (x : Work). IsDone s link x) (cause == 3 || cause == 9) _ _ (λ _. erases s link w h) (λ _. deregisters s link w h)
+rejection_is_done s link m w h =
+    when_holds (λ (x : Work). IsDone s link x) (m.cause == cause.ILLEGAL_UE || m.cause == cause.UE_IDENTITY_CANNOT_BE_DERIVED_BY_THE_NETWORK) _ _
+    (λ _. erases s link w h) (λ _. deregisters s link w h)
 
 -- The answers to a service request are taken where it is open.
 not_in_registering : (kind : Kind) → collide_mm (registering_word kind) mm_kinds.ServiceAccept ≡ Status98
@@ -166,25 +174,26 @@ service_is_done s link w e h =
     let said : summed w.acts s ≡ summed_from (with_timer T3517 true no_timer) = h.said ∙ ap summed_from e in
     done_of s link _ (summed_from no_timer) (simp (onto, said)) (record { runs = refl; owned = tt; few = tt })
 
-service_rejection_is_done : (s : Summary) (link : Bool) (cause : ℕ) (w : Work) → running_in w.phase ≡ with_timer T3517 true no_timer
-    → IsBegun s link (running_in w.phase) w → IsDone s link (service_rejected cause w)
+service_rejection_is_done : (s : Summary) (link : Bool) (m : ServiceReject) (w : Work) → running_in w.phase ≡ with_timer T3517 true no_timer
+    → IsBegun s link (running_in w.phase) w → IsDone s link (service_rejected m w)
 unfolding service_rejected
-service_rejection_is_done s link cause w e h =
-    when_holds (λ (x : Work). IsDone s link x) (cause == 9) _ _ (λ _. erases s link w h)
-    (λ _. when_holds (λ (x : Work). IsDone s link x) (cause == 10) _ _ (λ _. deregisters s link w h) (λ _. service_is_done s link w e h))
+service_rejection_is_done s link m w e h =
+    when_holds (λ (x : Work). IsDone s link x) (m.cause == cause.UE_IDENTITY_CANNOT_BE_DERIVED_BY_THE_NETWORK) _ _ (λ _. erases s link w h)
+    (λ _. when_holds (λ (x : Work). IsDone s link x) (m.cause == cause.IMPLICITLY_DEREGISTERED) _ _ (λ _. deregisters s link w h)
+    (λ _. service_is_done s link w e h))
 
 deregistration_is_done : (s : Summary) (link : Bool) (w : Work) → IsBegun s link (running_in w.phase) w
     → IsDone s link (deregistration_requested w)
 unfolding deregistration_requested
 deregistration_is_done s link w h =
-    deregistered_is_done s link (running_in w.phase) _ (answer_is_quiet s link (running_in w.phase) w DeregistrationAcceptUeTerminated h)
+    deregistered_is_done s link (running_in w.phase) _ (answer_is_quiet s link (running_in w.phase) w mm.DeregistrationAcceptUeTerminated h)
 
-transport_is_done : (s : Summary) (link : Bool) (container_type : ℕ) (container : List ℕ) (cause : Option ℕ) (w : Work)
-    → IsBegun s link (running_in w.phase) w → IsDone s link (transported container_type container cause w)
+transport_is_done : (s : Summary) (link : Bool) (m : DlNasTransport) (w : Work) → IsBegun s link (running_in w.phase) w
+    → IsDone s link (transported m w)
 unfolding transported
-transport_is_done s link container_type container cause w h =
-    when_holds (λ (x : Work). IsDone s link x) (container_type == 1) _ w
-    (λ _. per_holds (λ (x : Work). IsDone s link x) cause (tell (ToSession container) w) _
+transport_is_done s link m w h =
+    when_holds (λ (x : Work). IsDone s link x) (m.container_type == 1) _ w
+    (λ _. per_holds (λ (x : Work). IsDone s link x) m.cause (tell (ToSession m.container) w) _
     (λ _. done_of s link _ (summed w.acts s) (simp onto) (begun_is_done s link w h).sound)
     (λ n _. done_of s link _ (summed w.acts s) (simp onto) (begun_is_done s link w h).sound))
     (λ _. begun_is_done s link w h)
@@ -193,28 +202,28 @@ transport_is_done s link container_type container cause w h =
 pub taken_is_done : (s : Summary) (link : Bool) (m : Mm) (w : Work) → action m w ≡ Take → IsBegun s link (running_in w.phase) w
     → IsDone s link (taken m w)
 unfolding taken
-taken_is_done s link (AuthenticationRequest ksi abba rand autn) w e h = authentication_is_done s link ksi abba rand autn w h
-taken_is_done s link AuthenticationReject w e h = erases s link w h
-taken_is_done s link (IdentityRequest identity_type) w e h = identity_is_done s link identity_type w h
-taken_is_done s link (RegistrationAccept result guti tai_list nssai sessions t3512) w e h = registration_is_done s link guti sessions w h
-taken_is_done s link (RegistrationReject cause) w e h = rejection_is_done s link cause w h
-taken_is_done s link (ServiceAccept sessions) w e h = service_is_done s link w (of_service w.phase e) h
-taken_is_done s link (ServiceReject cause sessions) w e h = service_rejection_is_done s link cause w (of_service w.phase e) h
-taken_is_done s link (DeregistrationRequestUeTerminated switch_off cause) w e h = deregistration_is_done s link w h
-taken_is_done s link DeregistrationAcceptUeOriginating w e h = deregisters s link w h
-taken_is_done s link (DlNasTransport container_type container psi cause) w e h = transport_is_done s link container_type container cause w h
-taken_is_done s link (SecurityModeCommand algs ksi capability information) w e h = begun_is_done s link w h
-taken_is_done s link (RegistrationRequest registration ksi identity capability sessions) w e h = begun_is_done s link w h
-taken_is_done s link RegistrationComplete w e h = begun_is_done s link w h
-taken_is_done s link (DeregistrationRequestUeOriginating switch_off ksi identity) w e h = begun_is_done s link w h
-taken_is_done s link DeregistrationAcceptUeTerminated w e h = begun_is_done s link w h
-taken_is_done s link (ServiceRequest ksi service_type identity sessions) w e h = begun_is_done s link w h
-taken_is_done s link (ConfigurationUpdateCommand indication guti) w e h = begun_is_done s link w h
-taken_is_done s link ConfigurationUpdateComplete w e h = begun_is_done s link w h
-taken_is_done s link (AuthenticationResponse res_star) w e h = begun_is_done s link w h
-taken_is_done s link (AuthenticationFailure cause auts) w e h = begun_is_done s link w h
-taken_is_done s link (IdentityResponse identity) w e h = begun_is_done s link w h
-taken_is_done s link (SecurityModeComplete message) w e h = begun_is_done s link w h
-taken_is_done s link (SecurityModeReject cause) w e h = begun_is_done s link w h
-taken_is_done s link (FiveGmmStatus cause) w e h = begun_is_done s link w h
-taken_is_done s link (UlNasTransport container_type container psi request_type slice dnn) w e h = begun_is_done s link w h
+taken_is_done s link (mm.AuthenticationRequest m) w e h = authentication_is_done s link m w h
+taken_is_done s link mm.AuthenticationReject w e h = erases s link w h
+taken_is_done s link (mm.IdentityRequest m) w e h = identity_is_done s link m w h
+taken_is_done s link (mm.RegistrationAccept m) w e h = registration_is_done s link m w h
+taken_is_done s link (mm.RegistrationReject m) w e h = rejection_is_done s link m w h
+taken_is_done s link (mm.ServiceAccept m) w e h = service_is_done s link w (of_service w.phase e) h
+taken_is_done s link (mm.ServiceReject m) w e h = service_rejection_is_done s link m w (of_service w.phase e) h
+taken_is_done s link (mm.DeregistrationRequestUeTerminated m) w e h = deregistration_is_done s link w h
+taken_is_done s link mm.DeregistrationAcceptUeOriginating w e h = deregisters s link w h
+taken_is_done s link (mm.DlNasTransport m) w e h = transport_is_done s link m w h
+taken_is_done s link (mm.SecurityModeCommand m) w e h = begun_is_done s link w h
+taken_is_done s link (mm.RegistrationRequest m) w e h = begun_is_done s link w h
+taken_is_done s link mm.RegistrationComplete w e h = begun_is_done s link w h
+taken_is_done s link (mm.DeregistrationRequestUeOriginating m) w e h = begun_is_done s link w h
+taken_is_done s link mm.DeregistrationAcceptUeTerminated w e h = begun_is_done s link w h
+taken_is_done s link (mm.ServiceRequest m) w e h = begun_is_done s link w h
+taken_is_done s link (mm.ConfigurationUpdateCommand m) w e h = begun_is_done s link w h
+taken_is_done s link mm.ConfigurationUpdateComplete w e h = begun_is_done s link w h
+taken_is_done s link (mm.AuthenticationResponse m) w e h = begun_is_done s link w h
+taken_is_done s link (mm.AuthenticationFailure m) w e h = begun_is_done s link w h
+taken_is_done s link (mm.IdentityResponse m) w e h = begun_is_done s link w h
+taken_is_done s link (mm.SecurityModeComplete m) w e h = begun_is_done s link w h
+taken_is_done s link (mm.SecurityModeReject m) w e h = begun_is_done s link w h
+taken_is_done s link (mm.FiveGmmStatus m) w e h = begun_is_done s link w h
+taken_is_done s link (mm.UlNasTransport m) w e h = begun_is_done s link w h

@@ -2,13 +2,14 @@
 use Rattle.std.proofs.Common.{◌≡◌, refl, ap, ◌∙◌, ℕ, Bool, true, false, not, ◌==◌, ◌||◌, List, length, nat_lt, slice_index_or, Result, Ok, arith}
 use Rattle.std.proofs.lemmas.Grind.{common_steps}
 use Rattle.nas_base.specs.Branches.{when◌then◌else◌}
+use Rattle.nas_base.specs.declared.mm_cause.TheConstants as cause
 use Rattle.collision_rules.specs.Plain.{permitted_ue}
 use Rattle.collision_rules.specs.declared.action.Action.{Action}
 use Rattle.collision_rules.specs.declared.action.Action.TheVariants.{Take, Discard, Status98, Status43, Status47}
 use Rattle.mm_messages.specs.KindOf.{kind_of}
 use Rattle.mm_messages.specs.Messages.{mm_in}
 use Rattle.mm_messages.specs.declared.message.Mm.{Mm}
-use Rattle.mm_messages.specs.declared.message.Mm.TheVariants.{IdentityRequest, RegistrationReject, ServiceReject}
+use Rattle.mm_messages.specs.declared.message.Mm.TheVariants as mm
 use Rattle.mm_messages.specs.declared.message.MmRefusal.{MmRefusal}
 use Rattle.ue_mm.specs.Delivery.{action, delivered, header_of, is_permitted_type, is_plain_allowed, new_context, plain, plain_by_table, plain_read, protected}
 use Rattle.ue_mm.specs.Laws.{AreReadPlain, Does, PlainDoByKind}
@@ -21,9 +22,9 @@ use Rattle.ue_mm.proofs.Branching.{when_false, when_true}
 
 -- the kinds that are permitted are those of the table
 permitted_kind : (m : Mm) → is_plain_allowed m ≡ true → permitted_ue (kind_of m) ≡ true
-permitted_kind (IdentityRequest identity_type) e = refl
-permitted_kind (RegistrationReject cause) e = refl
-permitted_kind (ServiceReject cause status) e = refl
+permitted_kind (mm.IdentityRequest m) e = refl
+permitted_kind (mm.RegistrationReject m) e = refl
+permitted_kind (mm.ServiceReject m) e = refl
 permitted_kind m e = e
 
 -- plain octets are read
@@ -63,9 +64,9 @@ plain_do_by_kind s now held octets reads = record {
   not_taken = λ m e other. done (by_read e ∙ not_taken (is_plain_allowed m) (action m w) m w other);
   unknown_type = λ n e. done (by_read e);
   wrong_part = λ n at e permitted.
-      done (by_read e ∙ when_true (is_permitted_type (slice_index_or octets 2 0)) (status 96 w) w permitted);
+      done (by_read e ∙ when_true (is_permitted_type (slice_index_or octets 2 0)) (status cause.INVALID_MANDATORY_INFORMATION w) w permitted);
   other_wrong_part = λ n at e other.
-      done (by_read e ∙ when_false (is_permitted_type (slice_index_or octets 2 0)) (status 96 w) w other);
+      done (by_read e ∙ when_false (is_permitted_type (slice_index_or octets 2 0)) (status cause.INVALID_MANDATORY_INFORMATION w) w other);
   ignored = λ at e. done (by_read e);
 }
   where

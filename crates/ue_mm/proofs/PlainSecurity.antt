@@ -2,6 +2,7 @@
 use Rattle.std.proofs.Common.{◌≡◌, refl, sym, ◌∙◌, ◌⊎◌, inl, inr, ℕ, ◌==◌, ◌||◌, Bool, true, false, not, List, [], ◌∷◌, ◌++◌, length, nat_lt, Option, Some, None, Result, Ok, Err, slice_index_or, arith}
 use Rattle.std.proofs.lemmas.Grind.{common_steps}
 use Rattle.nas_base.specs.Branches.{when◌then◌else◌}
+use Rattle.nas_base.specs.declared.mm_cause.TheConstants as cause
 use Rattle.nas_security.specs.Contexts.{SecurityContext}
 use Rattle.key_chain.specs.Keys.{res_star}
 use Rattle.nas_timers.specs.Durations.{deadline_after, duration_of}
@@ -13,10 +14,14 @@ use Rattle.milenage.specs.Checking.{checked}
 use Rattle.milenage.specs.declared.autn.AutnAnswer.{AutnAnswer}
 use Rattle.milenage.specs.declared.autn.AutnAnswer.TheVariants.{Accepted, MacFailure, NotFiveG, SynchFailure}
 use Rattle.mm_messages.specs.Messages.{mm_in, spelling}
+use Rattle.mm_messages.specs.declared.authentication.AuthenticationRequest.{AuthenticationRequest}
+use Rattle.mm_messages.specs.declared.identification.IdentityRequest.{IdentityRequest}
 use Rattle.mm_messages.specs.declared.message.Mm.{Mm}
-use Rattle.mm_messages.specs.declared.message.Mm.TheVariants.{RegistrationRequest, RegistrationAccept, RegistrationComplete, RegistrationReject, DeregistrationRequestUeOriginating, DeregistrationAcceptUeOriginating, DeregistrationRequestUeTerminated, DeregistrationAcceptUeTerminated, ServiceRequest, ServiceReject, ServiceAccept, ConfigurationUpdateCommand, ConfigurationUpdateComplete, AuthenticationRequest, AuthenticationResponse, AuthenticationReject, AuthenticationFailure, IdentityRequest, IdentityResponse, SecurityModeCommand, SecurityModeComplete, SecurityModeReject, FiveGmmStatus, UlNasTransport, DlNasTransport}
+use Rattle.mm_messages.specs.declared.message.Mm.TheVariants as mm
 use Rattle.mm_messages.specs.declared.message.MmRefusal.{MmRefusal}
 use Rattle.mm_messages.specs.declared.message.MmRefusal.TheVariants as refusals
+use Rattle.mm_messages.specs.declared.registration.RegistrationReject.{RegistrationReject}
+use Rattle.mm_messages.specs.declared.service.ServiceReject.{ServiceReject}
 use Rattle.ue_mm.specs.Authentication.{accepted, answer_again, answered, authentication_requested, challenged, failure, is_ksi_refused}
 use Rattle.ue_mm.specs.Connection.{deregistered, erased, idle}
 use Rattle.ue_mm.specs.Delivery.{action, delivered, header_of, is_permitted_type, is_plain_allowed, new_context, plain, plain_by_table, plain_read, protected, taken}
@@ -129,88 +134,90 @@ accepted_unsecured : (current : Option SecurityContext) (r : Request) (n : ℕ) 
 accepted_unsecured current r n res ck ik w h = record {
   open_still = h.open_still;
   kept = h.kept;
-  said = plain_said (start T3516 w).acts false _ (AuthenticationResponse (Some (res_star ck ik w.common.config.plmn r.rand res)))
+  said = plain_said (start T3516 w).acts false _ (mm.AuthenticationResponse (record { res_star = Some (res_star ck ik w.common.config.plmn r.rand res) }))
       (when_false w.common.secure Ciphered Plain h.open_still) (plain_started T3516 w h.said);
 }
 
 answered_unsecured : (current : Option SecurityContext) (a : AutnAnswer) (r : Request) (w : Work) → IsUnsecured current w
     → IsUnsecured current (answered a r w)
 answered_unsecured current (Accepted n res ck ik ak) r w h = accepted_unsecured current r n res ck ik w h
-answered_unsecured current MacFailure r w h = answer_unsecured current (AuthenticationFailure 20 None) w h
-answered_unsecured current NotFiveG r w h = answer_unsecured current (AuthenticationFailure 26 None) w h
-answered_unsecured current (SynchFailure auts) r w h = answer_unsecured current (AuthenticationFailure 21 (Some auts)) w h
+answered_unsecured current MacFailure r w h = answer_unsecured current _ w h
+answered_unsecured current NotFiveG r w h = answer_unsecured current _ w h
+answered_unsecured current (SynchFailure auts) r w h = answer_unsecured current _ w h
 
 challenged_unsecured : (current : Option SecurityContext) (r : Request) (w : Work) → IsUnsecured current w
     → IsUnsecured current (challenged r w)
 unfolding challenged
 challenged_unsecured current r w h =
     per_holds (λ (x : Work). IsUnsecured current x) (answer_again w.common.stored r) _ _
-    (λ _. when_holds (λ (x : Work). IsUnsecured current x) (is_ksi_refused w.common.current r.ksi) (failure 71 None w) _
-    (λ _. answer_unsecured current (AuthenticationFailure 71 None) w h)
+    (λ _. when_holds (λ (x : Work). IsUnsecured current x) (is_ksi_refused w.common.current r.ksi) (failure cause.NGKSI_ALREADY_IN_USE None w) _
+    (λ _. answer_unsecured current _ w h)
     (λ _. answered_unsecured current (checked w.common.config.k w.common.config.opc r.rand r.autn w.common.sqn) r w h))
-    (λ res_star _. answer_unsecured current (AuthenticationResponse (Some res_star)) w h)
+    (λ res_star _. answer_unsecured current _ w h)
 
-authentication_unsecured : (current : Option SecurityContext) (ksi : ℕ) (abba : List ℕ) (rand autn : Option (List ℕ)) (w : Work)
-    → IsUnsecured current w → IsUnsecured current (authentication_requested ksi abba rand autn w)
+authentication_unsecured : (current : Option SecurityContext) (m : AuthenticationRequest) (w : Work) → IsUnsecured current w
+    → IsUnsecured current (authentication_requested m w)
 unfolding authentication_requested
-authentication_unsecured current ksi abba rand autn w h =
-    per_holds (λ (x : Work). IsUnsecured current x) rand (status 111 w) _
-    (λ _. answer_unsecured current (FiveGmmStatus 111) w h)
-    (λ x _. per_holds (λ (y : Work). IsUnsecured current y) autn (status 111 w) _
-    (λ _. answer_unsecured current (FiveGmmStatus 111) w h)
-    (λ y _. challenged_unsecured current _ w h))
+authentication_unsecured current m w h =
+    per_holds (λ (x : Work). IsUnsecured current x) m.rand (status cause.PROTOCOL_ERROR_UNSPECIFIED w) _
+    (λ _. answer_unsecured current _ w h)
+    (λ rand _. per_holds (λ (x : Work). IsUnsecured current x) m.autn (status cause.PROTOCOL_ERROR_UNSPECIFIED w) _
+    (λ _. answer_unsecured current _ w h)
+    (λ autn _. challenged_unsecured current _ w h))
 
-identity_unsecured : (current : Option SecurityContext) (identity_type : ℕ) (w : Work) → IsUnsecured current w
-    → IsUnsecured current (identity_requested identity_type w)
+identity_unsecured : (current : Option SecurityContext) (m : IdentityRequest) (w : Work) → IsUnsecured current w
+    → IsUnsecured current (identity_requested m w)
 unfolding identity_requested
-identity_unsecured current identity_type w h =
-    when_holds (λ (x : Work). IsUnsecured current x) (identity_type == 1) _ (status 111 w)
-    (λ _. answer_unsecured current _ w h) (λ _. answer_unsecured current (FiveGmmStatus 111) w h)
+identity_unsecured current m w h =
+    when_holds (λ (x : Work). IsUnsecured current x) (m.identity_type == 1) _ (status cause.PROTOCOL_ERROR_UNSPECIFIED w)
+    (λ _. answer_unsecured current _ w h) (λ _. answer_unsecured current _ w h)
 
-rejected_unsecured : (current : Option SecurityContext) (cause : ℕ) (w : Work) → IsUnsecured current w
-    → IsUnsecured current (registration_rejected cause w)
+rejected_unsecured : (current : Option SecurityContext) (m : RegistrationReject) (w : Work) → IsUnsecured current w
+    → IsUnsecured current (registration_rejected m w)
 unfolding registration_rejected
-rejected_unsecured current cause w h =
-    when_holds (λ (x : Work). IsUnsecured current x) (cause == 3 || cause == 9) _ _
+rejected_unsecured current m w h =
+    when_holds (λ (x : Work). IsUnsecured current x)
+    (m.cause == cause.ILLEGAL_UE || m.cause == cause.UE_IDENTITY_CANNOT_BE_DERIVED_BY_THE_NETWORK) _ _
     (λ _. erased_unsecured current w h) (λ _. deregistered_unsecured current w h)
 
-unserved_unsecured : (current : Option SecurityContext) (cause : ℕ) (w : Work) → IsUnsecured current w
-    → IsUnsecured current (service_rejected cause w)
+unserved_unsecured : (current : Option SecurityContext) (m : ServiceReject) (w : Work) → IsUnsecured current w
+    → IsUnsecured current (service_rejected m w)
 unfolding service_rejected service_accepted
-unserved_unsecured current cause w h =
-    when_holds (λ (x : Work). IsUnsecured current x) (cause == 9) _ _ (λ _. erased_unsecured current w h)
-    (λ _. when_holds (λ (x : Work). IsUnsecured current x) (cause == 10) _ _ (λ _. deregistered_unsecured current w h)
+unserved_unsecured current m w h =
+    when_holds (λ (x : Work). IsUnsecured current x) (m.cause == cause.UE_IDENTITY_CANNOT_BE_DERIVED_BY_THE_NETWORK) _ _
+    (λ _. erased_unsecured current w h)
+    (λ _. when_holds (λ (x : Work). IsUnsecured current x) (m.cause == cause.IMPLICITLY_DEREGISTERED) _ _ (λ _. deregistered_unsecured current w h)
     (λ _. record { open_still = h.open_still; kept = h.kept; said = plain_told w.acts _ h.said }))
 
 -- the rows of the messages that are permitted
 taken_unsecured : (current : Option SecurityContext) (m : Mm) (w : Work) → is_plain_allowed m ≡ true → IsUnsecured current w
     → IsUnsecured current (taken m w)
 unfolding taken
-taken_unsecured current (AuthenticationRequest ksi abba rand autn) w e h = authentication_unsecured current ksi abba rand autn w h
-taken_unsecured current AuthenticationReject w e h = erased_unsecured current w h
-taken_unsecured current (IdentityRequest identity_type) w e h = identity_unsecured current identity_type w h
-taken_unsecured current (RegistrationReject cause) w e h = rejected_unsecured current cause w h
-taken_unsecured current (ServiceReject cause sessions) w e h = unserved_unsecured current cause w h
-taken_unsecured current DeregistrationAcceptUeOriginating w e h = deregistered_unsecured current w h
-taken_unsecured current (RegistrationAccept result guti tai_list nssai sessions t3512) w e h = absurd (cc)
-taken_unsecured current (ServiceAccept sessions) w e h = absurd (cc)
-taken_unsecured current (DeregistrationRequestUeTerminated switch_off cause) w e h = absurd (cc)
-taken_unsecured current (DlNasTransport container_type container psi cause) w e h = absurd (cc)
-taken_unsecured current (SecurityModeCommand algs ksi capability information) w e h = h
-taken_unsecured current (RegistrationRequest registration ksi identity capability sessions) w e h = h
-taken_unsecured current RegistrationComplete w e h = h
-taken_unsecured current (DeregistrationRequestUeOriginating switch_off ksi identity) w e h = h
-taken_unsecured current DeregistrationAcceptUeTerminated w e h = h
-taken_unsecured current (ServiceRequest ksi service_type identity sessions) w e h = h
-taken_unsecured current (ConfigurationUpdateCommand indication guti) w e h = h
-taken_unsecured current ConfigurationUpdateComplete w e h = h
-taken_unsecured current (AuthenticationResponse res_star) w e h = h
-taken_unsecured current (AuthenticationFailure cause auts) w e h = h
-taken_unsecured current (IdentityResponse identity) w e h = h
-taken_unsecured current (SecurityModeComplete message) w e h = h
-taken_unsecured current (SecurityModeReject cause) w e h = h
-taken_unsecured current (FiveGmmStatus cause) w e h = h
-taken_unsecured current (UlNasTransport container_type container psi request_type slice dnn) w e h = h
+taken_unsecured current (mm.AuthenticationRequest m) w e h = authentication_unsecured current m w h
+taken_unsecured current mm.AuthenticationReject w e h = erased_unsecured current w h
+taken_unsecured current (mm.IdentityRequest m) w e h = identity_unsecured current m w h
+taken_unsecured current (mm.RegistrationReject m) w e h = rejected_unsecured current m w h
+taken_unsecured current (mm.ServiceReject m) w e h = unserved_unsecured current m w h
+taken_unsecured current mm.DeregistrationAcceptUeOriginating w e h = deregistered_unsecured current w h
+taken_unsecured current (mm.RegistrationAccept m) w e h = absurd (cc)
+taken_unsecured current (mm.ServiceAccept m) w e h = absurd (cc)
+taken_unsecured current (mm.DeregistrationRequestUeTerminated m) w e h = absurd (cc)
+taken_unsecured current (mm.DlNasTransport m) w e h = absurd (cc)
+taken_unsecured current (mm.SecurityModeCommand m) w e h = h
+taken_unsecured current (mm.RegistrationRequest m) w e h = h
+taken_unsecured current mm.RegistrationComplete w e h = h
+taken_unsecured current (mm.DeregistrationRequestUeOriginating m) w e h = h
+taken_unsecured current mm.DeregistrationAcceptUeTerminated w e h = h
+taken_unsecured current (mm.ServiceRequest m) w e h = h
+taken_unsecured current (mm.ConfigurationUpdateCommand m) w e h = h
+taken_unsecured current mm.ConfigurationUpdateComplete w e h = h
+taken_unsecured current (mm.AuthenticationResponse m) w e h = h
+taken_unsecured current (mm.AuthenticationFailure m) w e h = h
+taken_unsecured current (mm.IdentityResponse m) w e h = h
+taken_unsecured current (mm.SecurityModeComplete m) w e h = h
+taken_unsecured current (mm.SecurityModeReject m) w e h = h
+taken_unsecured current (mm.FiveGmmStatus m) w e h = h
+taken_unsecured current (mm.UlNasTransport m) w e h = h
 
 table_unsecured : (current : Option SecurityContext) (a : Action) (m : Mm) (w : Work) → is_plain_allowed m ≡ true → IsUnsecured current w
     → IsUnsecured current (plain_by_table a m w)
@@ -226,10 +233,10 @@ read_unsecured current (Ok m) octets w h =
     when_holds (λ (x : Work). IsUnsecured current x) (is_plain_allowed m) (plain_by_table (action m w) m w) w
     (λ e. table_unsecured current (action m w) m w e h) (λ _. h)
 read_unsecured current (Err (refusals.Ignored at)) octets w h = h
-read_unsecured current (Err (refusals.UnknownType n)) octets w h = answer_unsecured current (FiveGmmStatus 97) w h
+read_unsecured current (Err (refusals.UnknownType n)) octets w h = answer_unsecured current _ w h
 read_unsecured current (Err (refusals.Mandatory n at)) octets w h =
-    when_holds (λ (x : Work). IsUnsecured current x) (is_permitted_type (slice_index_or octets 2 0)) (status 96 w) w
-    (λ _. answer_unsecured current (FiveGmmStatus 96) w h) (λ _. h)
+    when_holds (λ (x : Work). IsUnsecured current x) (is_permitted_type (slice_index_or octets 2 0)) (status cause.INVALID_MANDATORY_INFORMATION w) w
+    (λ _. answer_unsecured current _ w h) (λ _. h)
 read_unsecured current (Err refusals.Memory) octets w h = h
 
 -- what a step leaves of a work in which nothing is secure, or that is as it began

@@ -3,6 +3,7 @@ use Rattle.std.proofs.Common.{◌≡◌, refl, ap, ◌∙◌, ℕ, ◌<◌, ◌�
 use Rattle.std.proofs.lemmas.Grind.{common_steps}
 use Rattle.nas_base.specs.Branches.{per, when◌then◌else◌}
 use Rattle.nas_base.specs.declared.count.Dir.TheVariants.{Down}
+use Rattle.mm_messages.specs.declared.security_mode.SecurityModeCommand.{SecurityModeCommand}
 use Rattle.nas_security.proofs.PassingLaws.{passed_where_passing}
 use Rattle.nas_security.specs.Contexts.{SecurityContext}
 use Rattle.nas_security.specs.Passing.{Passes, judged}
@@ -16,7 +17,6 @@ use Rattle.ue_mm.specs.State.{MmState, is_deregistering}
 use Rattle.ue_mm.specs.Step.{ended, started, worked}
 use Rattle.ue_mm.specs.declared.common.Pending.{Pending}
 use Rattle.ue_mm.specs.declared.inputs.UeInput.TheVariants.{Delivered}
-use Rattle.ue_mm.specs.declared.security_mode.Command.{Command}
 use Rattle.ue_mm.specs.declared.work.Work.{Work}
 use Rattle.ue_mm.proofs.Branching.{per_holds, when_holds}
 
@@ -100,7 +100,7 @@ is_current ksi w =
     (λ (x : Option SecurityContext). (context : SecurityContext) → x ≡ Some context → w.common.current ≡ Some context)
     (q.ksi == ksi) (Some q) None (λ _ context e. is ∙ e) (λ _ context e. absurd (cc)))
 
-unchecked_command : (command : Command) (octets : List ℕ) (w : Work) → get_or octets 6 0 < 256 → PassNoCheck w.common octets
+unchecked_command : (command : SecurityModeCommand) (octets : List ℕ) (w : Work) → get_or octets 6 0 < 256 → PassNoCheck w.common octets
     → security_mode_commanded command octets w ≡ w
 unfolding security_mode_commanded
 unchecked_command command octets w small no_check =

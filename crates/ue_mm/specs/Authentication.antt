@@ -2,13 +2,15 @@
 use Rattle.std.specs.Prelude.{ℕ, Bool, false, ◌==◌, ◌&&◌, ◌||◌, List, take, Option, Some, None}
 use Rattle.std.specs.Str.{bytes_eq}
 use Rattle.nas_base.specs.Branches.{per, when◌then◌else◌}
+use Rattle.nas_base.specs.declared.mm_cause.TheConstants as cause
 use Rattle.key_chain.specs.Keys.{kamf, kausf, kseaf, res_star}
 use Rattle.milenage.specs.Checking.{checked}
 use Rattle.milenage.specs.declared.autn.AutnAnswer.{AutnAnswer}
 use Rattle.milenage.specs.declared.autn.AutnAnswer.TheVariants.{Accepted, MacFailure, NotFiveG, SynchFailure}
 use Rattle.nas_security.specs.Contexts.{SecurityContext}
 use Rattle.nas_timers.specs.declared.timer_id.TimerId.TheVariants.{T3516}
-use Rattle.mm_messages.specs.declared.message.Mm.TheVariants.{AuthenticationFailure, AuthenticationResponse}
+use Rattle.mm_messages.specs.declared.authentication.AuthenticationRequest.{AuthenticationRequest}
+use Rattle.mm_messages.specs.declared.message.Mm.TheVariants as mm
 use Rattle.ue_mm.specs.Config.{HandsetValues}
 use Rattle.ue_mm.specs.Work.{answer, start, status}
 use Rattle.ue_mm.specs.declared.authentication.Request.{Request}
@@ -26,7 +28,7 @@ abbrev pub answer_again : Option Stored → Request → Option (List ℕ)
 answer_again stored r = per stored None (λ (s : Stored). when is_same s.request r then Some s.res_star else None)
 
 abbrev pub response : List ℕ → Work → Work
-response res_star w = answer (AuthenticationResponse (Some res_star)) w
+response res_star w = answer (mm.AuthenticationResponse (record { res_star = Some res_star })) w
 
 -- the ngKSI says that no key is to come of it, or is that of the current context
 abbrev pub is_ksi_refused : Option SecurityContext → ℕ → Bool
@@ -45,25 +47,26 @@ accepted r n res ck ik w =
     (record w { common = record w.common { sqn = n; pending = Some pending; stored = Some (record { request = r; res_star = expected }) } }))
 
 abbrev pub failure : ℕ → Option (List ℕ) → Work → Work
-failure cause auts w = answer (AuthenticationFailure cause auts) w
+failure n auts w = answer (mm.AuthenticationFailure (record { cause = n; auts = auts })) w
 
--- what MILENAGE answers: MAC failure (20), non-5G authentication unacceptable (26), synch failure (21) with AUTS
+-- what MILENAGE answers; a synch failure has AUTS
 abbrev pub answered : AutnAnswer → Request → Work → Work
 answered (Accepted n res ck ik ak) r w = accepted r n res ck ik w
-answered MacFailure r w = failure 20 None w
-answered NotFiveG r w = failure 26 None w
-answered (SynchFailure auts) r w = failure 21 (Some auts) w
+answered MacFailure r w = failure cause.MAC_FAILURE None w
+answered NotFiveG r w = failure cause.NON_5G_AUTHENTICATION_UNACCEPTABLE None w
+answered (SynchFailure auts) r w = failure cause.SYNCH_FAILURE (Some auts) w
 
--- a challenge, in the order of its cases: one that is repeated, one whose ngKSI is in use (71), and what MILENAGE answers
+-- a challenge, in the order of its cases: one that is repeated, one whose ngKSI is in use, and what MILENAGE answers
 unfoldable pub challenged : Request → Work → Work
 challenged r w =
     per (answer_again w.common.stored r)
-    (when is_ksi_refused w.common.current r.ksi then failure 71 None w
+    (when is_ksi_refused w.common.current r.ksi then failure cause.NGKSI_ALREADY_IN_USE None w
     else answered (checked w.common.config.k w.common.config.opc r.rand r.autn w.common.sqn) r w)
     (λ (res_star : List ℕ). response res_star w)
 
 -- AUTHENTICATION REQUEST; without RAND or AUTN it is none
-unfoldable pub authentication_requested : ℕ → List ℕ → Option (List ℕ) → Option (List ℕ) → Work → Work
-authentication_requested ksi abba rand autn w =
-    per rand (status 111 w) (λ (x : List ℕ).
-    per autn (status 111 w) (λ (y : List ℕ). challenged (record { ksi = ksi; abba = abba; rand = x; autn = y }) w))
+unfoldable pub authentication_requested : AuthenticationRequest → Work → Work
+authentication_requested m w =
+    per m.rand (status cause.PROTOCOL_ERROR_UNSPECIFIED w) (λ (rand : List ℕ).
+    per m.autn (status cause.PROTOCOL_ERROR_UNSPECIFIED w) (λ (autn : List ℕ).
+    challenged (record { ksi = m.ksi; abba = m.abba; rand = rand; autn = autn }) w))

@@ -1,7 +1,8 @@
 -- What a handset makes of octets that reach it (TS 24.501 clauses 4.4.4.2 and 7).
-use Rattle.std.specs.Prelude.{ℕ, Bool, false, not, ◌==◌, ◌||◌, ◌%◌, List, length, drop, slice_index_or, nat_lt, Option, Some, None, Result, Ok, Err, if◌then◌else◌}
+use Rattle.std.specs.Prelude.{ℕ, Bool, false, not, ◌==◌, ◌||◌, ◌%◌, List, length, drop, slice_index_or, nat_lt, Option, Some, None, Result, Ok, Err}
 use Rattle.nas_base.specs.Branches.{per, when◌then◌else◌}
 use Rattle.nas_base.specs.Kinds.{mm_kind}
+use Rattle.nas_base.specs.declared.mm_cause.TheConstants as cause
 use Rattle.collision_rules.specs.Mm.{collide_mm}
 use Rattle.collision_rules.specs.Plain.{permitted_ue}
 use Rattle.collision_rules.specs.declared.action.Action.{Action}
@@ -10,9 +11,10 @@ use Rattle.nas_security.specs.Contexts.{SecurityContext}
 use Rattle.mm_messages.specs.KindOf.{kind_of}
 use Rattle.mm_messages.specs.Messages.{mm_in}
 use Rattle.mm_messages.specs.declared.message.Mm.{Mm}
-use Rattle.mm_messages.specs.declared.message.Mm.TheVariants.{RegistrationRequest, RegistrationAccept, RegistrationComplete, RegistrationReject, DeregistrationRequestUeOriginating, DeregistrationAcceptUeOriginating, DeregistrationRequestUeTerminated, DeregistrationAcceptUeTerminated, ServiceRequest, ServiceReject, ServiceAccept, ConfigurationUpdateCommand, ConfigurationUpdateComplete, AuthenticationRequest, AuthenticationResponse, AuthenticationReject, AuthenticationFailure, IdentityRequest, IdentityResponse, SecurityModeCommand, SecurityModeComplete, SecurityModeReject, FiveGmmStatus, UlNasTransport, DlNasTransport}
+use Rattle.mm_messages.specs.declared.message.Mm.TheVariants as mm
 use Rattle.mm_messages.specs.declared.message.MmRefusal.{MmRefusal}
 use Rattle.mm_messages.specs.declared.message.MmRefusal.TheVariants as refusals
+use Rattle.mm_messages.specs.declared.security_mode.SecurityModeCommand.{SecurityModeCommand}
 use Rattle.ue_mm.specs.Authentication.{authentication_requested}
 use Rattle.ue_mm.specs.Checks.{Opened, counted, opened}
 use Rattle.ue_mm.specs.Connection.{deregistered, erased}
@@ -24,36 +26,35 @@ use Rattle.ue_mm.specs.Service.{service_accepted, service_rejected}
 use Rattle.ue_mm.specs.State.{word_of}
 use Rattle.ue_mm.specs.Transport.{transported}
 use Rattle.ue_mm.specs.Work.{status}
-use Rattle.ue_mm.specs.declared.security_mode.Command.{Command}
 use Rattle.ue_mm.specs.declared.work.Work.{Work}
 
 -- The row of each message that the table of collisions takes. SECURITY MODE COMMAND has its row under header type 3 alone.
 unfoldable pub taken : Mm → Work → Work
-taken (AuthenticationRequest ksi abba rand autn) w = authentication_requested ksi abba rand autn w
-taken AuthenticationReject w = erased (deregistered w)
-taken (IdentityRequest identity_type) w = identity_requested identity_type w
-taken (RegistrationAccept result guti tai_list nssai status t3512) w = registration_accepted guti status w
-taken (RegistrationReject cause) w = registration_rejected cause w
-taken (ServiceAccept status) w = service_accepted w
-taken (ServiceReject cause status) w = service_rejected cause w
-taken (DeregistrationRequestUeTerminated switch_off cause) w = deregistration_requested w
-taken DeregistrationAcceptUeOriginating w = deregistered w
-taken (DlNasTransport container_type container psi cause) w = transported container_type container cause w
-taken (SecurityModeCommand algs ksi capability information) w = w
-taken (RegistrationRequest registration ksi identity capability status) w = w
-taken RegistrationComplete w = w
-taken (DeregistrationRequestUeOriginating switch_off ksi identity) w = w
-taken DeregistrationAcceptUeTerminated w = w
-taken (ServiceRequest ksi service_type identity status) w = w
-taken (ConfigurationUpdateCommand indication guti) w = w
-taken ConfigurationUpdateComplete w = w
-taken (AuthenticationResponse res_star) w = w
-taken (AuthenticationFailure cause auts) w = w
-taken (IdentityResponse identity) w = w
-taken (SecurityModeComplete message) w = w
-taken (SecurityModeReject cause) w = w
-taken (FiveGmmStatus cause) w = w
-taken (UlNasTransport container_type container psi request_type slice dnn) w = w
+taken (mm.AuthenticationRequest m) w = authentication_requested m w
+taken mm.AuthenticationReject w = erased (deregistered w)
+taken (mm.IdentityRequest m) w = identity_requested m w
+taken (mm.RegistrationAccept m) w = registration_accepted m w
+taken (mm.RegistrationReject m) w = registration_rejected m w
+taken (mm.ServiceAccept m) w = service_accepted w
+taken (mm.ServiceReject m) w = service_rejected m w
+taken (mm.DeregistrationRequestUeTerminated m) w = deregistration_requested w
+taken mm.DeregistrationAcceptUeOriginating w = deregistered w
+taken (mm.DlNasTransport m) w = transported m w
+taken (mm.SecurityModeCommand m) w = w
+taken (mm.RegistrationRequest m) w = w
+taken mm.RegistrationComplete w = w
+taken (mm.DeregistrationRequestUeOriginating m) w = w
+taken mm.DeregistrationAcceptUeTerminated w = w
+taken (mm.ServiceRequest m) w = w
+taken (mm.ConfigurationUpdateCommand m) w = w
+taken mm.ConfigurationUpdateComplete w = w
+taken (mm.AuthenticationResponse m) w = w
+taken (mm.AuthenticationFailure m) w = w
+taken (mm.IdentityResponse m) w = w
+taken (mm.SecurityModeComplete m) w = w
+taken (mm.SecurityModeReject m) w = w
+taken (mm.FiveGmmStatus m) w = w
+taken (mm.UlNasTransport m) w = w
 
 abbrev pub action : Mm → Work → Action
 action message w = collide_mm (word_of w.phase) (kind_of message)
@@ -64,12 +65,12 @@ abbrev pub five_gmm_status : ℕ
 five_gmm_status = 0x64
 
 abbrev pub faulty : List ℕ → Work → Work
-faulty octets w = when slice_index_or octets 2 0 == five_gmm_status then w else status 96 w
+faulty octets w = when slice_index_or octets 2 0 == five_gmm_status then w else status cause.INVALID_MANDATORY_INFORMATION w
 
 -- A message that passed goes by the table.
 abbrev pub by_table : Action → Mm → Work → Work
 by_table Take message w = taken message w
-by_table Status98 message w = status 98 w
+by_table Status98 message w = status cause.MESSAGE_TYPE_NOT_COMPATIBLE_WITH_THE_PROTOCOL_STATE w
 by_table Discard message w = w
 by_table Status43 message w = w
 by_table Status47 message w = w
@@ -77,7 +78,7 @@ by_table Status47 message w = w
 abbrev pub passed_read : Result Mm MmRefusal → List ℕ → Work → Work
 passed_read (Ok message) octets w = by_table (action message w) message w
 passed_read (Err (refusals.Ignored at)) octets w = w
-passed_read (Err (refusals.UnknownType n)) octets w = status 97 w
+passed_read (Err (refusals.UnknownType n)) octets w = status cause.MESSAGE_TYPE_NON_EXISTENT_OR_NOT_IMPLEMENTED w
 passed_read (Err (refusals.Mandatory n at)) octets w = faulty octets w
 passed_read (Err refusals.Memory) octets w = w
 
@@ -87,12 +88,12 @@ passed octets w = passed_read (mm_in octets) octets w
 -- The plain messages that are taken before secure exchange (clause 4.4.4.2): those of the table, an IDENTITY REQUEST where it asks
 -- for the SUCI, and a reject unless its cause is from 72 to 86, which is a choice of this project.
 abbrev pub may_reject : ℕ → Bool
-may_reject cause = nat_lt cause 72 || nat_lt 86 cause
+may_reject n = nat_lt n 72 || nat_lt 86 n
 
 abbrev pub is_plain_allowed : Mm → Bool
-is_plain_allowed (IdentityRequest identity_type) = identity_type == 1
-is_plain_allowed (RegistrationReject cause) = may_reject cause
-is_plain_allowed (ServiceReject cause status) = may_reject cause
+is_plain_allowed (mm.IdentityRequest m) = m.identity_type == 1
+is_plain_allowed (mm.RegistrationReject m) = may_reject m.cause
+is_plain_allowed (mm.ServiceReject m) = may_reject m.cause
 is_plain_allowed message = permitted_ue (kind_of message)
 
 -- Where the table says STATUS 98, a plain message is discarded.
@@ -112,22 +113,24 @@ plain_message message w = when is_plain_allowed message then plain_by_table (act
 abbrev pub plain_read : Result Mm MmRefusal → List ℕ → Work → Work
 plain_read (Ok message) octets w = plain_message message w
 plain_read (Err (refusals.Ignored at)) octets w = w
-plain_read (Err (refusals.UnknownType n)) octets w = status 97 w
-plain_read (Err (refusals.Mandatory n at)) octets w = when is_permitted_type (slice_index_or octets 2 0) then status 96 w else w
+plain_read (Err (refusals.UnknownType n)) octets w = status cause.MESSAGE_TYPE_NON_EXISTENT_OR_NOT_IMPLEMENTED w
+plain_read (Err (refusals.Mandatory n at)) octets w =
+    when is_permitted_type (slice_index_or octets 2 0) then status cause.INVALID_MANDATORY_INFORMATION w else w
 plain_read (Err refusals.Memory) octets w = w
 
 unfoldable pub plain : List ℕ → Work → Work
 plain octets w = when w.common.secure then w else plain_read (mm_in octets) octets w
 
 -- a frame of header type 3, by the command inside
-abbrev pub command_of : Result Mm MmRefusal → Option Command
-command_of (Ok (SecurityModeCommand algs ksi capability information)) =
-    Some (record { algs = algs; ksi = ksi; capability = capability; information = information })
+abbrev pub command_of : Result Mm MmRefusal → Option SecurityModeCommand
+command_of (Ok (mm.SecurityModeCommand m)) = Some m
 command_of read = None
 
+abbrev pub command_inside : Option SecurityModeCommand → List ℕ → Work → Work
+command_inside command octets w = per command w (λ (c : SecurityModeCommand). security_mode_commanded c octets w)
+
 unfoldable pub new_context : List ℕ → Work → Work
-new_context octets w =
-    per (command_of (mm_in (drop 7 octets))) w (λ (command : Command). security_mode_commanded command octets w)
+new_context octets w = command_inside (command_of (mm_in (drop 7 octets))) octets w
 
 -- a frame of header type 1, 2 or 4, under the current context
 abbrev pub frame_under_current : SecurityContext → List ℕ → Work → Work

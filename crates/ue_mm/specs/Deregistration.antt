@@ -3,7 +3,7 @@ use Rattle.std.specs.Prelude.{◌+◌, Bool, true, false, nat_lt}
 use Rattle.nas_base.specs.Branches.{when◌then◌else◌}
 use Rattle.nas_timers.specs.declared.timer_id.TimerId.TheVariants.{T3521}
 use Rattle.mm_messages.specs.declared.message.Mm.{Mm}
-use Rattle.mm_messages.specs.declared.message.Mm.TheVariants.{DeregistrationAcceptUeTerminated, DeregistrationRequestUeOriginating}
+use Rattle.mm_messages.specs.declared.message.Mm.TheVariants as mm
 use Rattle.ue_mm.specs.Config.{HandsetValues}
 use Rattle.ue_mm.specs.Connection.{connected, deregistered}
 use Rattle.ue_mm.specs.Identification.{identity_of, ksi_of}
@@ -14,7 +14,8 @@ use Rattle.ue_mm.specs.declared.work.Work.{Work}
 
 -- DEREGISTRATION REQUEST of the handset
 abbrev pub deregistration_request : HandsetValues → Bool → Deregistration → Mm
-deregistration_request config switch_off p = DeregistrationRequestUeOriginating switch_off p.ksi (identity_of config p.guti)
+deregistration_request config switch_off p =
+    mm.DeregistrationRequestUeOriginating (record { switch_off = switch_off; ksi = p.ksi; identity = identity_of config p.guti })
 
 -- The command. A handset that is switched off waits for no answer.
 abbrev pub deregistering : Deregistration → Work → Work
@@ -35,4 +36,4 @@ deregistration_expired p w =
 
 -- DEREGISTRATION REQUEST of the network
 unfoldable pub deregistration_requested : Work → Work
-deregistration_requested w = deregistered (answer DeregistrationAcceptUeTerminated w)
+deregistration_requested w = deregistered (answer mm.DeregistrationAcceptUeTerminated w)

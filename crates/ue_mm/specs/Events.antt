@@ -1,7 +1,7 @@
 -- Timers that expire, a connection that is lost, and a restart.
 use Rattle.std.specs.Prelude.{None}
 use Rattle.nas_timers.specs.declared.timer_id.TimerId.{TimerId}
-use Rattle.nas_timers.specs.declared.timer_id.TimerId.TheVariants.{T3510, T3516, T3517, T3521, T3522, T3550, T3560, T3580, T3581, T3582, T3591, T3592}
+use Rattle.nas_timers.specs.declared.timer_id.TimerId.TheVariants.{T3510, T3516, T3517, T3521, T3522, T3550, T3555, T3560, T3580, T3581, T3582, T3591, T3592}
 use Rattle.ue_mm.specs.Connection.{deregistered, erased, idle}
 use Rattle.ue_mm.specs.Deregistration.{deregistration_expired}
 use Rattle.ue_mm.specs.Registration.{registration_left}
@@ -40,6 +40,7 @@ expired T3517 w = service_expired w.phase w
 expired T3521 w = leaving_expired w.phase w
 expired T3522 w = w
 expired T3550 w = w
+expired T3555 w = w
 expired T3560 w = w
 expired (T3580 psi) w = w
 expired (T3581 psi) w = w

@@ -2,13 +2,15 @@
 use Rattle.std.specs.Prelude.{ℕ, [], ◌∷◌, ◌==◌, Option}
 use Rattle.nas_base.specs.Branches.{per, when◌then◌else◌}
 use Rattle.nas_base.specs.Supi.{msin_of}
+use Rattle.nas_base.specs.declared.mm_cause.TheConstants as cause
 use Rattle.nas_elements.specs.Guti.{stmsi_of}
 use Rattle.nas_elements.specs.Suci.{SuciParts}
 use Rattle.nas_elements.specs.declared.guti.Guti.{Guti}
 use Rattle.nas_elements.specs.declared.identity.Identity.{Identity}
 use Rattle.nas_elements.specs.declared.identity.Identity.TheVariants as identities
 use Rattle.nas_security.specs.Contexts.{SecurityContext}
-use Rattle.mm_messages.specs.declared.message.Mm.TheVariants.{IdentityResponse}
+use Rattle.mm_messages.specs.declared.identification.IdentityRequest.{IdentityRequest}
+use Rattle.mm_messages.specs.declared.message.Mm.TheVariants as mm
 use Rattle.ue_mm.specs.Config.{HandsetValues}
 use Rattle.ue_mm.specs.Work.{answer, status}
 use Rattle.ue_mm.specs.declared.work.Work.{Work}
@@ -29,6 +31,7 @@ abbrev pub ksi_of : Option SecurityContext → ℕ
 ksi_of current = per current 7 (λ (context : SecurityContext). context.ksi)
 
 -- IDENTITY REQUEST: the SUCI is told where it is asked for, type 1; other identities are not told
-unfoldable pub identity_requested : ℕ → Work → Work
-identity_requested identity_type w =
-    when identity_type == 1 then answer (IdentityResponse (identities.Suci (suci_of w.common.config))) w else status 111 w
+unfoldable pub identity_requested : IdentityRequest → Work → Work
+identity_requested m w =
+    when m.identity_type == 1 then answer (mm.IdentityResponse (record { identity = identities.Suci (suci_of w.common.config) })) w
+    else status cause.PROTOCOL_ERROR_UNSPECIFIED w

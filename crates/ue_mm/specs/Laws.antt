@@ -2,6 +2,7 @@
 use Rattle.std.specs.Prelude.{◌≡◌, ◌≤◌, ◌↔◌, ◌⊎◌, ℕ, Bool, true, false, List, [], ◌∷◌, length, slice_index_or, Some, None, Result, Ok, Err}
 use Rattle.std.specs.List.{Contains}
 use Rattle.nas_base.specs.declared.count.Dir.TheVariants.{Down}
+use Rattle.nas_base.specs.declared.mm_cause.TheConstants as cause
 use Rattle.nas_elements.specs.Algs.{Algorithms}
 use Rattle.nas_security.specs.Contexts.{SecurityContext}
 use Rattle.nas_security.specs.Passing.{Passes}
@@ -76,10 +77,10 @@ pub record PlainDo (s : MmState) (now : ℕ) (held : List Bool) (octets : List �
   pub not_permitted : (m : Mm) → mm_in octets ≡ Ok m → is_plain_allowed m ≡ false → DoesNothing s now held (Delivered octets)
   pub not_taken :
       (m : Mm) → mm_in octets ≡ Ok m → ¬ (action m (started s now held) ≡ Take) → DoesNothing s now held (Delivered octets)
-  pub unknown_type : (n : ℕ) → mm_in octets ≡ Err (refusals.UnknownType n) → Does s now held (Delivered octets) (status 97)
+  pub unknown_type : (n : ℕ) → mm_in octets ≡ Err (refusals.UnknownType n) → Does s now held (Delivered octets) (status cause.MESSAGE_TYPE_NON_EXISTENT_OR_NOT_IMPLEMENTED)
   pub wrong_part :
       (n at : ℕ) → mm_in octets ≡ Err (refusals.Mandatory n at) → is_permitted_type (slice_index_or octets 2 0) ≡ true
-      → Does s now held (Delivered octets) (status 96)
+      → Does s now held (Delivered octets) (status cause.INVALID_MANDATORY_INFORMATION)
   pub other_wrong_part :
       (n at : ℕ) → mm_in octets ≡ Err (refusals.Mandatory n at) → is_permitted_type (slice_index_or octets 2 0) ≡ false
       → DoesNothing s now held (Delivered octets)

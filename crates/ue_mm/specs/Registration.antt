@@ -1,12 +1,15 @@
 -- Registration (TS 24.501 clauses 5.5.1.2 and 5.5.1.3).
-use Rattle.std.specs.Prelude.{ℕ, Bool, ◌==◌, ◌||◌, List, Option, Some, None}
+use Rattle.std.specs.Prelude.{Bool, ◌==◌, ◌||◌, List, Option, Some, None}
 use Rattle.nas_base.specs.Branches.{per, when◌then◌else◌}
+use Rattle.nas_base.specs.declared.mm_cause.TheConstants as cause
 use Rattle.nas_base.specs.declared.kind.Kind.{Kind}
 use Rattle.nas_base.specs.declared.kind.Kind.TheVariants as kinds
 use Rattle.nas_elements.specs.declared.guti.Guti.{Guti}
 use Rattle.nas_timers.specs.declared.timer_id.TimerId.TheVariants.{T3510, T3516}
 use Rattle.mm_messages.specs.declared.message.Mm.{Mm}
-use Rattle.mm_messages.specs.declared.message.Mm.TheVariants.{RegistrationComplete, RegistrationRequest}
+use Rattle.mm_messages.specs.declared.message.Mm.TheVariants as mm
+use Rattle.mm_messages.specs.declared.registration.RegistrationAccept.{RegistrationAccept}
+use Rattle.mm_messages.specs.declared.registration.RegistrationReject.{RegistrationReject}
 use Rattle.mm_messages.specs.declared.registration.RegistrationType.{RegistrationType}
 use Rattle.mm_messages.specs.declared.registration.RegistrationType.TheVariants.{Initial, Mobility, Periodic}
 use Rattle.ue_mm.specs.Config.{HandsetValues}
@@ -27,8 +30,13 @@ type_of kinds.Periodic = Periodic
 
 -- REGISTRATION REQUEST, with the sessions that are told, if any
 abbrev pub registration_request : HandsetValues → Registration → Option (List Bool) → Mm
-registration_request config r sessions =
-    RegistrationRequest (type_of r.kind) r.ksi (identity_of config r.guti) (Some config.capability) sessions
+registration_request config r sessions = mm.RegistrationRequest (record {
+  registration = type_of r.kind;
+  ksi = r.ksi;
+  identity = identity_of config r.guti;
+  capability = Some config.capability;
+  status = sessions;
+})
 
 -- the sessions that the whole request tells: none in an initial registration
 abbrev pub told_sessions : Kind → List Bool → Option (List Bool)
@@ -49,7 +57,7 @@ register kind w = registering (began kind w) w
 -- REGISTRATION ACCEPT: a 5G-GUTI in it is taken and its taking confirmed; in a registration the procedure ends, and where the
 -- network tells sessions, all others are no more.
 abbrev pub named : Option Guti → Work → Work
-named guti w = per guti w (λ (g : Guti). answer RegistrationComplete (record w { common = record w.common { guti = Some g } }))
+named guti w = per guti w (λ (g : Guti). answer mm.RegistrationComplete (record w { common = record w.common { guti = Some g } }))
 
 abbrev pub kept : Option (List Bool) → Work → Work
 kept sessions w = per sessions w (λ (held : List Bool). tell (Keep held) w)
@@ -57,13 +65,15 @@ kept sessions w = per sessions w (λ (held : List Bool). tell (Keep held) w)
 abbrev pub registered : Option (List Bool) → Work → Work
 registered sessions w = kept sessions (record (stop T3516 (stop T3510 w)) { phase = Registered })
 
-unfoldable pub registration_accepted : Option Guti → Option (List Bool) → Work → Work
-registration_accepted guti sessions w =
-    per (open_registration w.phase) (named guti w) (λ (r : Registration). registered sessions (named guti w))
+unfoldable pub registration_accepted : RegistrationAccept → Work → Work
+registration_accepted m w =
+    per (open_registration w.phase) (named m.guti w) (λ (r : Registration). registered m.status (named m.guti w))
 
--- REGISTRATION REJECT: after illegal UE (3) and UE identity cannot be derived (9) nothing of the network's is kept
-unfoldable pub registration_rejected : ℕ → Work → Work
-registration_rejected cause w = when cause == 3 || cause == 9 then erased (deregistered w) else deregistered w
+-- REGISTRATION REJECT: of an illegal UE, and where the UE identity cannot be derived, nothing of the network's is kept
+unfoldable pub registration_rejected : RegistrationReject → Work → Work
+registration_rejected m w =
+    when m.cause == cause.ILLEGAL_UE || m.cause == cause.UE_IDENTITY_CANNOT_BE_DERIVED_BY_THE_NETWORK then erased (deregistered w)
+    else deregistered w
 
 -- the procedure ends without an answer: back to where it began
 abbrev pub phase_before : Kind → Phase

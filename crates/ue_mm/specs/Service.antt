@@ -1,9 +1,11 @@
 -- Service requests (TS 24.501 clause 5.6.1).
-use Rattle.std.specs.Prelude.{ℕ, ◌==◌, None}
+use Rattle.std.specs.Prelude.{◌==◌, None}
 use Rattle.nas_base.specs.Branches.{when◌then◌else◌}
+use Rattle.nas_base.specs.declared.mm_cause.TheConstants as cause
 use Rattle.nas_timers.specs.declared.timer_id.TimerId.TheVariants.{T3517}
 use Rattle.mm_messages.specs.declared.message.Mm.{Mm}
-use Rattle.mm_messages.specs.declared.message.Mm.TheVariants.{ServiceRequest}
+use Rattle.mm_messages.specs.declared.message.Mm.TheVariants as mm
+use Rattle.mm_messages.specs.declared.service.ServiceReject.{ServiceReject}
 use Rattle.ue_mm.specs.Config.{HandsetValues}
 use Rattle.ue_mm.specs.Connection.{connected, deregistered, erased}
 use Rattle.ue_mm.specs.Identification.{ksi_of, short_identity_of}
@@ -14,7 +16,8 @@ use Rattle.ue_mm.specs.declared.work.Work.{Work}
 
 -- SERVICE REQUEST of service type 0, signalling (clause 9.11.3.50)
 abbrev pub service_request : HandsetValues → Service → Mm
-service_request config p = ServiceRequest p.ksi 0 (short_identity_of config p.guti) None
+service_request config p =
+    mm.ServiceRequest (record { ksi = p.ksi; service_type = 0; identity = short_identity_of config p.guti; status = None })
 
 -- the command
 abbrev pub serving : Service → Work → Work
@@ -27,8 +30,9 @@ serve w = serving (record { ksi = ksi_of w.common.current; guti = w.common.guti 
 unfoldable pub service_accepted : Work → Work
 service_accepted w = record (stop T3517 w) { phase = Registered }
 
--- SERVICE REJECT: after UE identity cannot be derived (9) nothing of the network's is kept, and implicitly deregistered (10)
--- says so; after another cause the handset stays registered
-unfoldable pub service_rejected : ℕ → Work → Work
-service_rejected cause w =
-    when cause == 9 then erased (deregistered w) else (when cause == 10 then deregistered w else service_accepted w)
+-- SERVICE REJECT: where the UE identity cannot be derived nothing of the network's is kept, and implicitly deregistered says so;
+-- after another cause the handset stays registered
+unfoldable pub service_rejected : ServiceReject → Work → Work
+service_rejected m w =
+    when m.cause == cause.UE_IDENTITY_CANNOT_BE_DERIVED_BY_THE_NETWORK then erased (deregistered w)
+    else (when m.cause == cause.IMPLICITLY_DEREGISTERED then deregistered w else service_accepted w)

@@ -4,7 +4,7 @@ use Rattle.nas_base.specs.Branches.{per, when◌then◌else◌}
 use Rattle.nas_timers.specs.Durations.{deadline_after, duration_of}
 use Rattle.nas_timers.specs.declared.timer_id.TimerId.{TimerId}
 use Rattle.mm_messages.specs.declared.message.Mm.{Mm}
-use Rattle.mm_messages.specs.declared.message.Mm.TheVariants.{FiveGmmStatus}
+use Rattle.mm_messages.specs.declared.message.Mm.TheVariants as mm
 use Rattle.nas_security.specs.Contexts.{SecurityContext}
 use Rattle.ue_mm.specs.Common.{Common}
 use Rattle.ue_mm.specs.declared.acts.Act.TheVariants.{Say, Tell}
@@ -29,7 +29,7 @@ abbrev pub answer : Mm → Work → Work
 answer message w = say false (answer_protection w.common) message w
 
 abbrev pub status : ℕ → Work → Work
-status cause w = answer (FiveGmmStatus cause) w
+status n w = answer (mm.FiveGmmStatus (record { cause = n })) w
 
 -- A request of the handset's own is integrity protected alone where a context is current, so that the network can read who asks,
 -- and plain where none is (clause 4.4.6). It is fresh where it is the first message of its connection.

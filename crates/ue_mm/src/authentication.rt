@@ -7,7 +7,7 @@ use crate::work::Work;
 use crate::{HandsetConfig, Pending, Stored};
 use key_chain::{kamf, kausf, kseaf, res_star};
 use milenage::{AutnAnswer, check_autn};
-use mm_messages::Mm;
+use mm_messages::{AuthenticationFailure, AuthenticationRequest, AuthenticationResponse, Mm};
 use nas_base::mm_cause::{
     MAC_FAILURE, NGKSI_ALREADY_IN_USE, NON_5G_AUTHENTICATION_UNACCEPTABLE,
     PROTOCOL_ERROR_UNSPECIFIED, SYNCH_FAILURE,
@@ -102,22 +102,19 @@ impl Work {
     #[tactic(auto, unfolding(crate::specs::Authentication::authentication_requested, nas_base::specs::Branches::per))]
     pub fn authentication_requested(
         &mut self,
-        ksi: Ksi,
-        abba: Abba,
-        rand: Option<[u8; 16]>,
-        autn: Option<[u8; 16]>,
+        request: &AuthenticationRequest,
     ) -> Result<(), Memory>
-        ensures { OnOk result (self.new ≡ authentication_requested ksi abba rand autn self.old) }
+        ensures { OnOk result (self.new ≡ authentication_requested request.now self.old) }
     {
-        let Some(rand) = rand else {
+        let Some(rand) = request.rand else {
             return self.status(PROTOCOL_ERROR_UNSPECIFIED);
         };
-        let Some(autn) = autn else {
+        let Some(autn) = request.autn else {
             return self.status(PROTOCOL_ERROR_UNSPECIFIED);
         };
         self.challenged(Request {
-            ksi,
-            abba,
+            ksi: request.ksi,
+            abba: request.abba.copy(),
             rand,
             autn,
         })
@@ -196,15 +193,15 @@ impl Work {
     fn respond(&mut self, res_star: [u8; 16]) -> Result<(), Memory>
         ensures { OnOk result (self.new ≡ response res_star self.old) }
     {
-        self.answer(Mm::AuthenticationResponse {
+        self.answer(Mm::AuthenticationResponse(AuthenticationResponse {
             res_star: Some(res_star),
-        })
+        }))
     }
 
     // AUTHENTICATION FAILURE.
     fn fail(&mut self, cause: u8, auts: Option<[u8; 14]>) -> Result<(), Memory>
         ensures { OnOk result (self.new ≡ failure cause auts self.old) }
     {
-        self.answer(Mm::AuthenticationFailure { cause, auts })
+        self.answer(Mm::AuthenticationFailure(AuthenticationFailure { cause, auts }))
     }
 }

@@ -1,5 +1,5 @@
 //! Octets that pass the check of a context, and what a handset notes of it.
-ghost use Rattle.std.specs.Prelude.{◌≡◌, ◌<◌, ◌^◌, [], OnOk, option_map};
+ghost use Rattle.std.specs.Prelude.{◌≡◌, ◌<◌, [], OnOk, option_map};
 ghost use Rattle.ue_mm.specs.Checks.{counted, noted, opened, with_count};
 
 use crate::UeOut;

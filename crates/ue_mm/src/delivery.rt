@@ -1,10 +1,8 @@
 //! What a handset makes of octets that reach it.
-ghost use Rattle.std.specs.Prelude.{◌≡◌, drop, slice_index_or, IfOk, Ok, OnOk};
-ghost use Rattle.mm_messages.specs.Messages.{mm_in};
-ghost use Rattle.ue_mm.specs.Delivery.{action, by_table, command_of, delivered, faulty, header_of, is_permitted_type, is_plain_allowed, may_reject, new_context, passed, plain, plain_message, protected, taken, frame_under_current};
+ghost use Rattle.std.specs.Prelude.{◌≡◌, drop, slice_index_or, Ok, OnOk};
+ghost use Rattle.ue_mm.specs.Delivery.{action, by_table, command_inside, command_of, delivered, is_permitted_type, is_plain_allowed, may_reject, new_context, passed, plain, plain_message, protected, taken, frame_under_current};
 
 use crate::checks::open;
-use crate::security_mode::Command;
 use crate::work::Work;
 use collision_rules::{Action, collide_mm, permitted_ue};
 use mm_messages::{Mm, MmRefusal, decode_mm, kind_of};
@@ -38,9 +36,9 @@ fn is_plain_allowed(message: &Mm) -> bool
     ensures { result ≡ is_plain_allowed message.now }
 {
     match message {
-        Mm::IdentityRequest { identity_type } => *identity_type == SUCI,
-        Mm::RegistrationReject { cause } => may_reject(*cause),
-        Mm::ServiceReject { cause, status: _ } => may_reject(*cause),
+        Mm::IdentityRequest(request) => request.identity_type == SUCI,
+        Mm::RegistrationReject(reject) => may_reject(reject.cause),
+        Mm::ServiceReject(reject) => may_reject(reject.cause),
         _ => permitted_ue(kind_of(message)),
     }
 }
@@ -91,7 +89,7 @@ impl Work {
             return Ok(());
         }
         match decode_mm(alloc, octets) {
-            Ok(message) => self.plain_message(message),
+            Ok(message) => self.plain_message(alloc, &message),
             Err(MmRefusal::Ignored { at: _ }) => Ok(()),
             Err(MmRefusal::UnknownType { n: _ }) => self.status(
                 MESSAGE_TYPE_NON_EXISTENT_OR_NOT_IMPLEMENTED,
@@ -108,14 +106,14 @@ impl Work {
 
     // A plain message by the table. It is taken, or nothing is done.
     #[tactic(auto, unfolding(nas_base::specs::Branches::chosen))]
-    fn plain_message(&mut self, message: Mm) -> Result<(), Memory>
-        ensures { OnOk result (self.new ≡ plain_message message self.old) }
+    fn plain_message(&mut self, alloc: Global, message: &Mm) -> Result<(), Memory>
+        ensures { OnOk result (self.new ≡ plain_message message.now self.old) }
     {
-        if !is_plain_allowed(&message) {
+        if !is_plain_allowed(message) {
             return Ok(());
         }
-        match collide_mm(self.phase.word(), kind_of(&message)) {
-            Action::Take => self.taken(message),
+        match collide_mm(self.phase.word(), kind_of(message)) {
+            Action::Take => self.taken(alloc, message),
             Action::Discard | Action::Status98 | Action::Status43 | Action::Status47 => Ok(()),
         }
     }
@@ -125,10 +123,23 @@ impl Work {
     fn new_context(&mut self, alloc: Global, octets: &[u8]) -> Result<(), Memory>
         ensures { OnOk result (self.new ≡ new_context octets.now self.old) }
     {
-        let inside = inside(octets);
-        match command_in(alloc, inside)? {
-            Some(command) => self.security_mode_commanded(alloc, &command, octets),
-            None => Ok(()),
+        match decode_mm(alloc, inside(octets)) {
+            Ok(message) => self.command_inside(alloc, &message, octets),
+            Err(MmRefusal::Memory) => Err(Memory),
+            Err(_) => Ok(()),
+        }
+    }
+
+    // The message inside such a frame, where it is a SECURITY MODE COMMAND.
+    #[tactic(auto, unfolding(nas_base::specs::Branches::per))]
+    fn command_inside(&mut self, alloc: Global, message: &Mm, octets: &[u8]) -> Result<(), Memory>
+        ensures { OnOk result (self.new ≡ command_inside (command_of (Ok message.now)) octets.now self.old) }
+    {
+        match message {
+            Mm::SecurityModeCommand(command) => self.security_mode_commanded(
+                alloc, command, octets,
+            ),
+            _ => Ok(()),
         }
     }
 
@@ -166,7 +177,7 @@ impl Work {
         ensures { OnOk result (self.new ≡ passed octets.now self.old) }
     {
         match decode_mm(alloc, octets) {
-            Ok(message) => self.by_table(message),
+            Ok(message) => self.by_table(alloc, &message),
             Err(MmRefusal::Ignored { at: _ }) => Ok(()),
             Err(MmRefusal::UnknownType { n: _ }) => self.status(
                 MESSAGE_TYPE_NON_EXISTENT_OR_NOT_IMPLEMENTED,
@@ -182,11 +193,11 @@ impl Work {
     }
 
     // A message that passed, by the table.
-    fn by_table(&mut self, message: Mm) -> Result<(), Memory>
-        ensures { OnOk result (self.new ≡ by_table (action message self.old) message self.old) }
+    fn by_table(&mut self, alloc: Global, message: &Mm) -> Result<(), Memory>
+        ensures { OnOk result (self.new ≡ by_table (action message.now self.old) message.now self.old) }
     {
-        match collide_mm(self.phase.word(), kind_of(&message)) {
-            Action::Take => self.taken(message),
+        match collide_mm(self.phase.word(), kind_of(message)) {
+            Action::Take => self.taken(alloc, message),
             Action::Status98 => self.status(MESSAGE_TYPE_NOT_COMPATIBLE_WITH_THE_PROTOCOL_STATE),
             Action::Discard | Action::Status43 | Action::Status47 => Ok(()),
         }
@@ -194,68 +205,22 @@ impl Work {
 
     // The row of a message that the table takes. SECURITY MODE COMMAND has its row under header type 3 alone.
     #[tactic(auto, unfolding(crate::specs::Delivery::taken))]
-    fn taken(&mut self, message: Mm) -> Result<(), Memory>
-        ensures { OnOk result (self.new ≡ taken message self.old) }
+    fn taken(&mut self, alloc: Global, message: &Mm) -> Result<(), Memory>
+        ensures { OnOk result (self.new ≡ taken message.now self.old) }
     {
         match message {
-            Mm::AuthenticationRequest {
-                ksi,
-                abba,
-                rand,
-                autn,
-            } => self.authentication_requested(ksi, abba, rand, autn),
+            Mm::AuthenticationRequest(request) => self.authentication_requested(request),
             Mm::AuthenticationReject => self.deregister_and_erase(),
-            Mm::IdentityRequest { identity_type } => self.identity_requested(identity_type),
-            Mm::RegistrationAccept { guti, status, .. } => self.registration_accepted(guti, status),
-            Mm::RegistrationReject { cause } => self.registration_rejected(cause),
-            Mm::ServiceAccept { status: _ } => self.service_accepted(),
-            Mm::ServiceReject { cause, status: _ } => self.service_rejected(cause),
-            Mm::DeregistrationRequestUeTerminated {
-                switch_off: _,
-                cause: _,
-            } => { self.deregistration_requested() }
+            Mm::IdentityRequest(request) => self.identity_requested(request),
+            Mm::RegistrationAccept(accept) => self.registration_accepted(accept),
+            Mm::RegistrationReject(reject) => self.registration_rejected(reject),
+            Mm::ServiceAccept(_) => self.service_accepted(),
+            Mm::ServiceReject(reject) => self.service_rejected(reject),
+            Mm::DeregistrationRequestUeTerminated(_) => self.deregistration_requested(),
             Mm::DeregistrationAcceptUeOriginating => self.deregister(),
-            Mm::DlNasTransport {
-                container_type,
-                container,
-                psi: _,
-                cause,
-            } => self.transported(container_type, container, cause),
+            Mm::DlNasTransport(transport) => self.transported(alloc, transport),
             _ => Ok(()),
         }
-    }
-}
-
-// The SECURITY MODE COMMAND in octets, if they are one.
-fn command_in(alloc: Global, octets: &[u8]) -> Result<Option<Command>, Memory>
-    ensures { IfOk result (λ command. command ≡ command_of (mm_in octets.now)) }
-{
-    match decode_mm(alloc, octets) {
-        Ok(message) => Ok(command_of(&message)),
-        Err(MmRefusal::Memory) => Err(Memory),
-        Err(MmRefusal::Ignored { at: _ })
-        | Err(MmRefusal::UnknownType { n: _ })
-        | Err(MmRefusal::Mandatory { part: _, at: _ }) => Ok(None),
-    }
-}
-
-// A message as a SECURITY MODE COMMAND, if it is one.
-fn command_of(message: &Mm) -> Option<Command>
-    ensures { result ≡ command_of (Ok message.now) }
-{
-    match message {
-        Mm::SecurityModeCommand {
-            algs,
-            ksi,
-            capability,
-            asi,
-        } => Some(Command {
-            algs: *algs,
-            ksi: *ksi,
-            capability: capability.copy(),
-            information: *asi,
-        }),
-        _ => None,
     }
 }
 

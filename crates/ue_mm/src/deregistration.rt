@@ -6,7 +6,7 @@ use crate::HandsetConfig;
 use crate::identification::{identity_of, ksi_of};
 use crate::procedures::{Deregistration, Phase, copied};
 use crate::work::Work;
-use mm_messages::Mm;
+use mm_messages::{DeregistrationRequestUeOriginating, Mm};
 use nas_base::Memory;
 use nas_timers::TimerId;
 
@@ -21,11 +21,11 @@ fn deregistration_request(
 ) -> Mm
     ensures { result ≡ deregistration_request config.now switch_off deregistration.now }
 {
-    Mm::DeregistrationRequestUeOriginating {
+    Mm::DeregistrationRequestUeOriginating(DeregistrationRequestUeOriginating {
         switch_off,
         ksi: deregistration.ksi,
         identity: identity_of(config, &deregistration.guti),
-    }
+    })
 }
 
 impl Work {

@@ -2,6 +2,7 @@
 ghost use Rattle.std.specs.Prelude.{◌≡◌, ◌≤◌, [], OnOk, length};
 ghost use Rattle.mm_messages.specs.Messages.{spelling};
 ghost use Rattle.ue_mm.specs.Framing.{IsSpelled, framed, framed_all, framed_out, framed_plain, framed_protected};
+ghost use Rattle.ue_mm.specs.declared.acts.Act.TheVariants.{Say};
 ghost use Rattle.ue_mm.specs.declared.outs.UeOut.TheVariants.{Send};
 
 use crate::acts::{Act, Acts, Protection};
@@ -38,19 +39,32 @@ impl Framed {
         ensures { OnOk result (self.new ≡ framed supi.now act self.old) }
     {
         match act {
-            Act::Tell(out) => self.outs.push(out),
+            Act::Tell(out) => self.outs.push(alloc, out),
             Act::Say {
                 fresh,
                 protection,
                 message,
-            } => match protection {
-                Protection::Plain => self.plain(alloc, fresh, &message),
-                Protection::IntegrityProtected => self.protected(alloc, supi, 1, fresh, &message),
-                Protection::Ciphered => self.protected(alloc, supi, 2, fresh, &message),
-                Protection::CipheredWithNewContext => self.protected(
-                    alloc, supi, 4, fresh, &message,
-                ),
-            },
+            } => self.say(alloc, supi, fresh, protection, &message),
+        }
+    }
+
+    // A message that was said.
+    #[tactic(auto, unfolding(crate::specs::Framing::framed))]
+    fn say(
+        &mut self,
+        alloc: Global,
+        supi: &Supi,
+        fresh: bool,
+        protection: Protection,
+        message: &Mm,
+    ) -> Result<(), Memory>
+        ensures { OnOk result (self.new ≡ framed supi.now (Say fresh protection message.now) self.old) }
+    {
+        match protection {
+            Protection::Plain => self.plain(alloc, fresh, message),
+            Protection::IntegrityProtected => self.protected(alloc, supi, 1, fresh, message),
+            Protection::Ciphered => self.protected(alloc, supi, 2, fresh, message),
+            Protection::CipheredWithNewContext => self.protected(alloc, supi, 4, fresh, message),
         }
     }
 
@@ -114,11 +128,12 @@ impl Framed {
         let Ok(octets) = Octets::copy(alloc, octets) else {
             return Err(Memory);
         };
-        self.outs.push(UeOut::Send {
+        let send = UeOut::Send {
             fresh,
             octets,
             pass,
-        })
+        };
+        self.outs.push(alloc, send)
     }
 }
 

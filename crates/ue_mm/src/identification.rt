@@ -6,7 +6,7 @@ ghost use Rattle.ue_mm.specs.Identification.{identity_of, identity_requested, ks
 
 use crate::HandsetConfig;
 use crate::work::Work;
-use mm_messages::Mm;
+use mm_messages::{IdentityRequest, IdentityResponse, Mm};
 use nas_base::mm_cause::PROTOCOL_ERROR_UNSPECIFIED;
 use nas_base::{Digits, Ksi, Memory};
 use nas_elements::{Guti, Identity, Suci};
@@ -68,14 +68,12 @@ pub fn ksi_of(current: &Option<Context>) -> Ksi
 impl Work {
     /// IDENTITY REQUEST.
     #[tactic(auto, unfolding(crate::specs::Identification::identity_requested, nas_base::specs::Branches::chosen))]
-    pub fn identity_requested(&mut self, identity_type: Half) -> Result<(), Memory>
-        ensures { OnOk result (self.new ≡ identity_requested identity_type self.old) }
+    pub fn identity_requested(&mut self, request: &IdentityRequest) -> Result<(), Memory>
+        ensures { OnOk result (self.new ≡ identity_requested request.now self.old) }
     {
-        if identity_type == SUCI {
-            let suci = suci_of(&self.common.config);
-            return self.answer(Mm::IdentityResponse {
-                identity: Identity::Suci(suci),
-            });
+        if request.identity_type == SUCI {
+            let identity = Identity::Suci(suci_of(&self.common.config));
+            return self.answer(Mm::IdentityResponse(IdentityResponse { identity }));
         }
         self.status(PROTOCOL_ERROR_UNSPECIFIED)
     }

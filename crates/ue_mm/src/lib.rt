@@ -23,8 +23,6 @@ mod security_mode;
 mod service;
 mod state;
 mod stepping;
-#[cfg(test)]
-mod tests;
 mod transport;
 mod view;
 mod work;

@@ -1,5 +1,5 @@
 //! What goes out of a handset's 5GMM.
-ghost use Rattle.std.specs.Prelude.{◌≡◌, [], ◌∷◌, ◌++◌, OnOk};
+ghost use Rattle.std.specs.Prelude.{◌≡◌, [], ◌∷◌, ◌++◌, OnErr, OnOk};
 
 use nas_base::{Memory, Moment, Octets};
 use nas_elements::Status;
@@ -69,9 +69,10 @@ impl UeOuts {
     ///
     /// # Errors
     ///
-    /// `Memory`.
-    pub fn push(&mut self, out: UeOut) -> Result<(), Memory>
-        ensures { OnOk result (self.new ≡ self.old ++ out ∷ []) }
+    /// `Memory`; nothing then changes.
+    pub fn push(&mut self, _alloc: Global, out: UeOut) -> Result<(), Memory>
+        ensures ok { OnOk result (self.new ≡ self.old ++ out ∷ []) }
+        ensures err { OnErr result (self.new ≡ self.old) }
     {
         match self.items.push(out) {
             Ok(()) => Ok(()),

@@ -1,14 +1,15 @@
 //! Registration.
 ghost use Rattle.std.specs.Prelude.{◌≡◌, ◌≤◌, OnOk, length};
 ghost use Rattle.mm_messages.specs.Messages.{spelling};
-ghost use Rattle.ue_mm.specs.Registration.{kept, named, phase_before, register, registered, registering, registration_accepted, registration_left, registration_rejected, registration_request, told_sessions, type_of};
-ghost use Rattle.ue_mm.specs.State.{open_registration};
+ghost use Rattle.ue_mm.specs.Registration.{kept, named, register, registered, registration_accepted, registration_left, registration_rejected, registration_request, told_sessions, type_of};
 
 use crate::identification::{identity_of, ksi_of};
 use crate::procedures::{Phase, Registration, copied};
 use crate::work::Work;
 use crate::{HandsetConfig, UeOut};
-use mm_messages::{Mm, RegistrationType};
+use mm_messages::{
+    Mm, RegistrationAccept, RegistrationReject, RegistrationRequest, RegistrationType,
+};
 use nas_base::mm_cause::{ILLEGAL_UE, UE_IDENTITY_CANNOT_BE_DERIVED_BY_THE_NETWORK};
 use nas_base::{Kind, Memory};
 use nas_elements::{Guti, Status};
@@ -35,13 +36,13 @@ pub fn registration_request(
     ensures value { result ≡ registration_request config.now registration.now sessions }
     ensures limit { length (spelling result) ≤ 4096 }
 {
-    Mm::RegistrationRequest {
+    Mm::RegistrationRequest(RegistrationRequest {
         registration: type_of(registration.kind),
         ksi: registration.ksi,
         identity: identity_of(config, &registration.guti),
         capability: Some(config.capability.copy()),
         status: sessions,
-    }
+    })
 }
 
 /// The sessions that the whole request tells: none in an initial registration.
@@ -74,28 +75,24 @@ impl Work {
 
     /// REGISTRATION ACCEPT.
     #[tactic(auto, unfolding(crate::specs::Registration::registration_accepted, nas_base::specs::Branches::per))]
-    pub fn registration_accepted(
-        &mut self,
-        guti: Option<Guti>,
-        sessions: Option<Status>,
-    ) -> Result<(), Memory>
-        ensures { OnOk result (self.new ≡ registration_accepted guti sessions self.old) }
+    pub fn registration_accepted(&mut self, accept: &RegistrationAccept) -> Result<(), Memory>
+        ensures { OnOk result (self.new ≡ registration_accepted accept.now self.old) }
     {
-        self.take_name(guti)?;
+        self.take_name(&accept.guti)?;
         match &self.phase {
-            Phase::Registering(_) => self.registered(sessions),
+            Phase::Registering(_) => self.registered(accept.status),
             _ => Ok(()),
         }
     }
 
     // A 5G-GUTI is taken, and its taking confirmed.
     #[tactic(auto, unfolding(nas_base::specs::Branches::per))]
-    fn take_name(&mut self, guti: Option<Guti>) -> Result<(), Memory>
-        ensures { OnOk result (self.new ≡ named guti self.old) }
+    fn take_name(&mut self, guti: &Option<Guti>) -> Result<(), Memory>
+        ensures { OnOk result (self.new ≡ named guti.now self.old) }
     {
         match guti {
             Some(guti) => {
-                self.common.guti = Some(guti);
+                self.common.guti = Some(guti.copy());
                 self.answer(Mm::RegistrationComplete)
             }
             None => Ok(()),
@@ -125,10 +122,12 @@ impl Work {
 
     /// REGISTRATION REJECT.
     #[tactic(auto, unfolding(crate::specs::Registration::registration_rejected, nas_base::specs::Branches::chosen))]
-    pub fn registration_rejected(&mut self, cause: u8) -> Result<(), Memory>
-        ensures { OnOk result (self.new ≡ registration_rejected cause self.old) }
+    pub fn registration_rejected(&mut self, reject: &RegistrationReject) -> Result<(), Memory>
+        ensures { OnOk result (self.new ≡ registration_rejected reject.now self.old) }
     {
-        if cause == ILLEGAL_UE || cause == UE_IDENTITY_CANNOT_BE_DERIVED_BY_THE_NETWORK {
+        if reject.cause == ILLEGAL_UE
+            || reject.cause == UE_IDENTITY_CANNOT_BE_DERIVED_BY_THE_NETWORK
+        {
             return self.deregister_and_erase();
         }
         self.deregister()

@@ -1,7 +1,6 @@
 //! Security mode control.
-ghost use Rattle.std.specs.Prelude.{◌≡◌, ◌≤◌, true, length, IfOk, OnOk};
-ghost use Rattle.nas_security.specs.Contexts.{AreInUse};
-ghost use Rattle.ue_mm.specs.SecurityMode.{are_supported, command_passed, command_completed, is_acceptable, is_wanted, made, picked_current, picked_pending, command_repeated, security_mode_commanded, command_picked, taken_into_use, command_under_current, command_under_pending, wanted_request, whole_request};
+ghost use Rattle.std.specs.Prelude.{◌≡◌, true, IfOk, OnOk};
+ghost use Rattle.ue_mm.specs.SecurityMode.{are_supported, command_passed, command_completed, is_acceptable, is_wanted, made, picked_current, picked_pending, security_mode_commanded, command_picked, taken_into_use, command_under_current, command_under_pending, wanted_request, whole_request};
 
 use crate::acts::Protection;
 use crate::checks::{open, with_count};
@@ -10,23 +9,13 @@ use crate::registration::{registration_request, told_sessions};
 use crate::work::Work;
 use crate::{HandsetConfig, Pending, UeOut};
 use key_chain::nas_keys;
-use mm_messages::{Mm, encode_mm};
+use mm_messages::{Mm, SecurityModeCommand, SecurityModeComplete, SecurityModeReject, encode_mm};
 use nas_base::mm_cause::UE_SECURITY_CAPABILITIES_MISMATCH;
 use nas_base::{Ksi, Memory, Octets, Writer};
-use nas_elements::{Algs, Asi, Capability, Status};
+use nas_elements::{Algs, Asi, Status};
 use nas_security::Context;
 use nas_timers::TimerId;
 use std::alloc::Global;
-
-/// SECURITY MODE COMMAND: the algorithms, the ngKSI of the key that they are for, the capability that the network was told, and
-/// what it asks for (TS 24.501 clause 8.2.25).
-#[derive(Drop)]
-pub struct Command {
-    pub algs: Algs,
-    pub ksi: Ksi,
-    pub capability: Capability,
-    pub information: Option<Asi>,
-}
 
 // Whether the algorithms are 128-NIA2, and 128-NEA2 or no ciphering.
 fn are_supported(algs: Algs) -> bool
@@ -37,17 +26,17 @@ fn are_supported(algs: Algs) -> bool
 
 // Whether the whole registration request is asked for.
 #[tactic(auto, unfolding(nas_base::specs::Branches::per))]
-fn is_wanted(information: &Option<Asi>) -> bool
-    ensures { result ≡ is_wanted information.now }
+fn is_wanted(asi: &Option<Asi>) -> bool
+    ensures { result ≡ is_wanted asi.now }
 {
-    match information {
-        Some(information) => information.asks_for_whole_message(),
+    match asi {
+        Some(asi) => asi.asks_for_whole_message(),
         None => false,
     }
 }
 
 // Whether the capability that is told back is the handset's, and has the algorithms.
-fn is_acceptable(command: &Command, config: &HandsetConfig) -> bool
+fn is_acceptable(command: &SecurityModeCommand, config: &HandsetConfig) -> bool
     ensures { result ≡ is_acceptable command.now config.now }
 {
     command.capability.as_slice() == config.capability.as_slice()
@@ -98,7 +87,7 @@ impl Work {
     pub fn security_mode_commanded(
         &mut self,
         alloc: Global,
-        command: &Command,
+        command: &SecurityModeCommand,
         octets: &[u8],
     ) -> Result<(), Memory>
         ensures { OnOk result (self.new ≡ security_mode_commanded command.now octets.now self.old) }
@@ -114,7 +103,7 @@ impl Work {
     fn command_picked(
         &mut self,
         alloc: Global,
-        command: &Command,
+        command: &SecurityModeCommand,
         octets: &[u8],
     ) -> Result<(), Memory>
         requires { are_supported command.now.algs ≡ true }
@@ -160,7 +149,7 @@ impl Work {
     fn command_under_pending(
         &mut self,
         alloc: Global,
-        command: &Command,
+        command: &SecurityModeCommand,
         context: &Context,
         octets: &[u8],
     ) -> Result<(), Memory>
@@ -179,7 +168,7 @@ impl Work {
     fn command_passed(
         &mut self,
         alloc: Global,
-        command: &Command,
+        command: &SecurityModeCommand,
         context: Context,
     ) -> Result<(), Memory>
         ensures { OnOk result (self.new ≡ command_passed command.now context self.old) }
@@ -188,13 +177,18 @@ impl Work {
             return self.take(alloc, command, context);
         }
         self.common.pending = None;
-        self.answer(Mm::SecurityModeReject {
+        self.answer(Mm::SecurityModeReject(SecurityModeReject {
             cause: UE_SECURITY_CAPABILITIES_MISMATCH,
-        })
+        }))
     }
 
     // The context is taken into use.
-    fn take(&mut self, alloc: Global, command: &Command, context: Context) -> Result<(), Memory>
+    fn take(
+        &mut self,
+        alloc: Global,
+        command: &SecurityModeCommand,
+        context: Context,
+    ) -> Result<(), Memory>
         ensures { OnOk result (self.new ≡ taken_into_use command.now context self.old) }
     {
         self.common.secure = true;
@@ -204,7 +198,7 @@ impl Work {
         self.tell(UeOut::Took(context))?;
         self.stop(TimerId::T3516)?;
         self.tell(UeOut::Abandon)?;
-        self.complete(alloc, &command.information)
+        self.complete(alloc, &command.asi)
     }
 
     // The command under the current context: it was sent again, since its answer was lost.
@@ -212,7 +206,7 @@ impl Work {
     fn command_under_current(
         &mut self,
         alloc: Global,
-        command: &Command,
+        command: &SecurityModeCommand,
         context: &Context,
         octets: &[u8],
     ) -> Result<(), Memory>
@@ -226,19 +220,19 @@ impl Work {
         if self.phase.is_deregistering() {
             return Ok(());
         }
-        self.complete(alloc, &command.information)
+        self.complete(alloc, &command.asi)
     }
 
     // SECURITY MODE COMPLETE.
     #[tactic(auto, unfolding(crate::specs::SecurityMode::command_completed))]
-    fn complete(&mut self, alloc: Global, information: &Option<Asi>) -> Result<(), Memory>
-        ensures { OnOk result (self.new ≡ command_completed information.now self.old) }
+    fn complete(&mut self, alloc: Global, asi: &Option<Asi>) -> Result<(), Memory>
+        ensures { OnOk result (self.new ≡ command_completed asi.now self.old) }
     {
-        let message = self.wanted_request(alloc, is_wanted(information))?;
+        let message = self.wanted_request(alloc, is_wanted(asi))?;
         self.say(
             false,
             Protection::CipheredWithNewContext,
-            Mm::SecurityModeComplete { message },
+            Mm::SecurityModeComplete(SecurityModeComplete { message }),
         )
     }
 

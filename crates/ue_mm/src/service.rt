@@ -6,7 +6,7 @@ use crate::HandsetConfig;
 use crate::identification::{ksi_of, short_identity_of};
 use crate::procedures::{Phase, Service, copied};
 use crate::work::Work;
-use mm_messages::Mm;
+use mm_messages::{Mm, ServiceReject, ServiceRequest};
 use nas_base::Memory;
 use nas_base::mm_cause::{IMPLICITLY_DEREGISTERED, UE_IDENTITY_CANNOT_BE_DERIVED_BY_THE_NETWORK};
 use nas_layout::Half;
@@ -19,12 +19,12 @@ const SIGNALLING: Half = Half(0);
 fn service_request(config: &HandsetConfig, service: &Service) -> Mm
     ensures { result ≡ service_request config.now service.now }
 {
-    Mm::ServiceRequest {
+    Mm::ServiceRequest(ServiceRequest {
         ksi: service.ksi,
         service_type: SIGNALLING,
         identity: short_identity_of(config, &service.guti),
         status: None,
-    }
+    })
 }
 
 impl Work {
@@ -56,13 +56,13 @@ impl Work {
 
     /// SERVICE REJECT.
     #[tactic(auto, unfolding(crate::specs::Service::service_rejected, nas_base::specs::Branches::chosen))]
-    pub fn service_rejected(&mut self, cause: u8) -> Result<(), Memory>
-        ensures { OnOk result (self.new ≡ service_rejected cause self.old) }
+    pub fn service_rejected(&mut self, reject: &ServiceReject) -> Result<(), Memory>
+        ensures { OnOk result (self.new ≡ service_rejected reject.now self.old) }
     {
-        if cause == UE_IDENTITY_CANNOT_BE_DERIVED_BY_THE_NETWORK {
+        if reject.cause == UE_IDENTITY_CANNOT_BE_DERIVED_BY_THE_NETWORK {
             return self.deregister_and_erase();
         }
-        if cause == IMPLICITLY_DEREGISTERED {
+        if reject.cause == IMPLICITLY_DEREGISTERED {
             return self.deregister();
         }
         self.service_accepted()

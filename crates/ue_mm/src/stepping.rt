@@ -2,7 +2,7 @@
 ghost use Rattle.std.specs.Prelude.{◌≡◌, IfOk};
 ghost use Rattle.ue_mm.specs.Outcome.{Works};
 ghost use Rattle.ue_mm.specs.State.{state_of};
-ghost use Rattle.ue_mm.specs.Step.{Follows, Steps, ended, started, step_of, worked};
+ghost use Rattle.ue_mm.specs.Step.{Follows, Steps, ended, step_of, worked};
 
 use crate::acts::Acts;
 use crate::framing::Framed;

@@ -4,10 +4,11 @@ ghost use Rattle.ue_mm.specs.Transport.{carried, transported, ul_transport};
 
 use crate::UeOut;
 use crate::work::Work;
-use mm_messages::Mm;
+use mm_messages::{DlNasTransport, Mm, UlNasTransport};
 use nas_base::{Memory, Octets, Psi};
 use nas_elements::Dnn;
 use nas_layout::Half;
+use std::alloc::Global;
 
 // Payload container type: N1 SM information (TS 24.501 clause 9.11.3.40).
 const N1_SM: Half = Half(1);
@@ -23,31 +24,29 @@ fn ul_transport(psi: Psi, dnn: Option<Dnn>, frame: Octets) -> Mm
         Some(_) => Some(INITIAL_REQUEST),
         None => None,
     };
-    Mm::UlNasTransport {
+    Mm::UlNasTransport(UlNasTransport {
         container_type: N1_SM,
         container: frame,
         psi: Some(psi.0),
         request_type,
         slice: None,
         dnn,
-    }
+    })
 }
 
 impl Work {
     /// DL NAS TRANSPORT.
     #[tactic(auto, unfolding(crate::specs::Transport::transported, nas_base::specs::Branches::chosen, nas_base::specs::Branches::per))]
-    pub fn transported(
-        &mut self,
-        container_type: Half,
-        container: Octets,
-        cause: Option<u8>,
-    ) -> Result<(), Memory>
-        ensures { OnOk result (self.new ≡ transported container_type container cause self.old) }
+    pub fn transported(&mut self, alloc: Global, transport: &DlNasTransport) -> Result<(), Memory>
+        ensures { OnOk result (self.new ≡ transported transport.now self.old) }
     {
-        if container_type != N1_SM {
+        if transport.container_type != N1_SM {
             return Ok(());
         }
-        match cause {
+        let Ok(container) = Octets::copy(alloc, transport.container.as_slice()) else {
+            return Err(Memory);
+        };
+        match transport.cause {
             None => self.tell(UeOut::ToSession(container)),
             Some(_) => self.tell(UeOut::NotForwarded(container)),
         }

@@ -5,7 +5,7 @@ ghost use Rattle.ue_mm.specs.Work.{answer, answer_protection, request, request_p
 use crate::acts::{Act, Acts, Protection};
 use crate::procedures::Phase;
 use crate::{Common, UeOut};
-use mm_messages::Mm;
+use mm_messages::{FiveGmmStatus, Mm};
 use nas_base::{Memory, Moment};
 use nas_elements::Status;
 use nas_timers::{TimerId, deadline_after};
@@ -65,7 +65,7 @@ impl Work {
     pub fn status(&mut self, cause: u8) -> Result<(), Memory>
         ensures { OnOk result (self.new ≡ status cause self.old) }
     {
-        self.answer(Mm::FiveGmmStatus { cause })
+        self.answer(Mm::FiveGmmStatus(FiveGmmStatus { cause }))
     }
 
     // What a request of the handset's own is sent under.

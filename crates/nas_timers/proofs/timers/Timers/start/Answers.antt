@@ -1,6 +1,7 @@
 use Rattle.std.proofs.Common.{◌≡◌, ◌∙◌, true, false, List, length, arith, ap, sym, subst}
+use Rattle.std.proofs.lemmas.List.Edits.{length-insert}
 use Rattle.nas_timers.specs.Places.{is_at, place_of}
-use Rattle.nas_timers.specs.Timers.{Running, are_timers}
+use Rattle.nas_timers.specs.Timers.{Running, are_timers, started}
 use Rattle.nas_timers.proofs.PlaceLemmas.{added, place_within, replaced_whole}
 use Rattle.nas_timers.proofs.TimersLemmas.{counted, timers_started}
 use Rattle.nas_timers.proofs.timers.Timers.start.Goals as goal
@@ -34,9 +35,15 @@ invariant_of-self-else-is_at c =
     subst (λ (ts : List Running). are_timers ts ≡ true) (sym whole)
     (timers_started c.args.id c.args.at c.args.self.now named (subst (λ (ts : List Running). are_timers ts ≡ true) (sym same) c.self.invariant))
 
+-- with the name that is added there are still no more than names
 pub insert-requires : goal.insert-requires
 insert-requires c =
     let same : c.args.self.now ≡ c.self.inside.entries.items = cc in
-    let few = counted c.self.inside.entries.items c.self.invariant in
+    let old : are_timers c.args.self.now ≡ true = subst (λ (ts : List Running). are_timers ts ≡ true) (sym same) c.self.invariant in
+    let apart : is_at (place_of c.args.id c.args.self.now) c.args.id c.args.self.now ≡ false =
+    rw (← c.place_of-index.ensures) (sym c.is_at.ensures ∙ c.if-is_at.false) in
+    let sum = ap length (added c.args.id c.args.at c.args.self.now old apart) in
+    let few = counted (started c.args.id c.args.at c.args.self.now) (timers_started c.args.id c.args.at c.args.self.now c.session-session.ensures.named old) in
     let within = place_within c.args.id c.args.self.now in
+    let more = length-insert c.args.self.now (place_of c.args.id c.args.self.now) (record { id = c.args.id; at = c.args.at }) within in
     let size = ap length same in (omega arith, (omega arith, omega arith))

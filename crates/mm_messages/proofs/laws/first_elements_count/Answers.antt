@@ -1,0 +1,5 @@
+use Rattle.mm_messages.proofs.FirstElementsLaws.{first_elements}
+use Rattle.mm_messages.proofs.laws.first_elements_count.Goals as goal
+
+pub returns : goal.returns
+returns c = first_elements c.args.octets.now

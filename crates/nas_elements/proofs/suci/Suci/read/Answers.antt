@@ -1,0 +1,9 @@
+use Rattle.std.proofs.Common.{sym, ◌∙◌}
+use Rattle.nas_elements.proofs.SuciFronts.{wrong_suci}
+use Rattle.nas_elements.proofs.suci.Suci.read.Goals as goal
+
+pub returns-in-Some : goal.returns-in-Some
+returns-in-Some c = sym c.from_slice.ensures ∙ c.in-Some.is
+
+pub returns-in-None : goal.returns-in-None
+returns-in-None c = (sym c.from_slice.ensures ∙ c.in-None.is, rw c.met_by_suci.ensures (wrong_suci c.args.octets.now))
