@@ -1,4 +1,4 @@
-"""Compares a handset, as nas_probe's call `handset` drives it, with an executable model. See handset.sh.
+"""Compares a handset, as machine_probe's call `handset` drives it, with an executable model. See handset.sh.
 
 Each step compares what is sent, octet for octet, in order, with its freshness and its pass, the message that passed, the context
 that was taken, the refusal, and all that can be seen. Which timers run is seen by ticks, at their deadlines and just before.

@@ -23,7 +23,7 @@ class HandsetWalk(Walk):
         self.network = Network(rng, crypto, self.codec, self.handset)
         self.words.append(f"{config.sqn:012x}")
 
-    # what can be seen of the model, in nas_probe's words
+    # what can be seen of the model, in machine_probe's words
 
     def view(self):
         handset = self.handset

@@ -1,4 +1,4 @@
-"""Compares a handset's 5GMM, as nas_probe's call `mobility` drives it step by step, with an executable model. See mobility.sh.
+"""Compares a handset's 5GMM, as machine_probe's call `mobility` drives it step by step, with an executable model. See mobility.sh.
 
 Beside what handset.py compares, each step compares what the sessions are told, by what becomes of them, and the running timers
 with their deadlines. The order of what goes out is compared among the messages that are sent, and among those for the sessions,
@@ -149,7 +149,7 @@ def psis(status):
 
 
 class AnsweredWithSessions(Answered):
-    """What nas_probe answered so far, with what became of sessions and timers."""
+    """What machine_probe answered so far, with what became of sessions and timers."""
 
     def __init__(self):
         super().__init__()

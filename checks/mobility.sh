@@ -1,14 +1,14 @@
 #!/bin/sh
-# Compares the steps of a handset's 5GMM, through the program nas_probe, with the executable model that NAS_MODEL names, on random
+# Compares the steps of a handset's 5GMM, through the program machine_probe, with the executable model that NAS_MODEL names, on random
 # walks: what goes to a handset's sessions and comes from them, timers that no procedure has, and counts near their end, which
 # handset.sh doesn't reach. A difference ends with status 1; where the program isn't built, no model is there or python3 is missing,
 # nothing is compared, with status 0.
 #
 # usage: checks/mobility.sh [WALKS [SEED]]
 cd "$(dirname "$0")/.." || exit 1
-probe=${NAS_PROBE:-crates/nas_probe/out/nas_probe}
+probe=${NAS_MACHINE_PROBE:-crates/machine_probe/out/machine_probe}
 if [ ! -x "$probe" ]; then
-    echo "mobility: skipped, $probe isn't built (rt run in crates/nas_probe builds it)"
+    echo "mobility: skipped, $probe isn't built (rt run in crates/machine_probe builds it)"
     exit 0
 fi
 if [ -z "${NAS_MODEL:-}" ] || [ ! -f "$(dirname "$NAS_MODEL")/nas_ue.py" ]; then

@@ -1,4 +1,4 @@
-"""Compares a network of three subscribers, as nas_probe's call `network` drives it, with an executable model. See network.sh.
+"""Compares a network of three subscribers, as machine_probe's call `network` drives it, with an executable model. See network.sh.
 
 Each step compares what is sent, octet for octet, in order, with its link and its pass, the message that passed, the refusal, and all
 that can be seen of each subscriber. Which timers run is seen by ticks, at their deadlines and just before. Handsets of the model
@@ -53,7 +53,7 @@ class NetworkWalk(Walk):
 
         return Observed
 
-    # what can be seen of the model, in nas_probe's words
+    # what can be seen of the model, in machine_probe's words
 
     def view(self, record):
         pending = getattr(record.proc, "pending", None)

@@ -70,7 +70,7 @@ class Subscribed:
         )
 
     def words(self):
-        """The configuration in nas_probe's words."""
+        """The configuration in machine_probe's words."""
         config = self.config
         amf = bytes([config.region]) + config.set_pointer.to_bytes(2, "big")
         parts = [self.plmn.mcc + self.plmn.mnc, text(amf), config.tmsi, config.nea, text(config.tac), f"{config.t3512:02x}"]

@@ -1,11 +1,11 @@
 //! A registration that is accepted.
 ghost use Rattle.std.specs.Prelude.{◌≡◌, ◌<◌, ◌^◌, OnOk};
-ghost use Rattle.amf_core.specs.Work.{config_of};
-ghost use Rattle.amf_core.specs.Acceptance.{acceptance_ended, acceptance_put, confirmed, is_challenge, is_initial, kept_with, new_guti, offered, opened_acceptance, registration_completed, registration_goes_on, registration_granted, released, tmsi_of, tmsi_taken, told_sessions};
+ghost use Rattle.amf_core.specs.Work.{by, config_of};
+ghost use Rattle.amf_core.specs.Acceptance.{acceptance_ended, acceptance_put, confirmed, is_initial, kept_with, new_guti, offered, opened_acceptance, registration_completed, registration_goes_on, registration_granted, released, tmsi_of, tmsi_taken, told_sessions};
 
 use crate::subscriber::copied_offer;
 use crate::work::Work;
-use crate::{Accepting, Configured, Gutis, Offer, Procedure, Request, SmfAsk, Subscriber};
+use crate::{Accepting, Configured, Gutis, Offer, Procedure, Record, Request, SmfAsk};
 use mm_messages::{Mm, RegistrationReject, RegistrationType};
 use nas_base::Memory;
 use nas_base::mm_cause::PROTOCOL_ERROR_UNSPECIFIED;
@@ -37,7 +37,7 @@ fn is_initial(registration: RegistrationType) -> bool
 
 // The sessions that the handset is told.
 #[tactic(auto, unfolding(nas_base::specs::Branches::chosen, nas_base::specs::Branches::per))]
-fn told_sessions(whole: &Whole, s: &Subscriber) -> Status
+fn told_sessions(whole: &Whole, s: &Record) -> Status
     ensures { result ≡ told_sessions whole.now s.now }
 {
     if is_initial(whole.registration) {
@@ -77,12 +77,12 @@ fn opened_acceptance(
     accepting: &Accepting,
     named: &Option<Guti>,
     challenge: Challenge,
-    s: Subscriber,
-) -> Subscriber
+    s: Record,
+) -> Record
     ensures { result ≡ opened_acceptance accepting.now named.now challenge s }
 {
     let kept = kept_with(named, &accepting.guti, &s.kept);
-    Subscriber {
+    Record {
         procedure: Procedure::Accepting(accepting.copy()),
         kept,
         offered: Some(Offer {
@@ -95,18 +95,11 @@ fn opened_acceptance(
     }
 }
 
-// Whether two challenges are the same.
-fn is_challenge(one: &Challenge, other: &Challenge) -> bool
-    ensures { result ≡ is_challenge one.now other.now }
-{
-    one.sqn == other.sqn && one.rand == other.rand
-}
-
 // A subscriber whose 5G-GUTI is confirmed.
-fn confirmed(guti: &Guti, s: Subscriber) -> Subscriber
+fn confirmed(guti: &Guti, s: Record) -> Record
     ensures { result ≡ confirmed guti.now s }
 {
-    Subscriber {
+    Record {
         kept: Gutis::from_one(guti.copy()),
         completed: true,
         ..s
@@ -116,8 +109,8 @@ fn confirmed(guti: &Guti, s: Subscriber) -> Subscriber
 impl<'a> Work<'a> {
     // The sessions that the registration leaves are kept, all others released.
     #[tactic(auto, unfolding(nas_base::specs::Branches::chosen, nas_base::specs::Branches::per))]
-    fn release(&mut self, whole: &Whole, s: &Subscriber) -> Result<(), Memory>
-        ensures { OnOk result (self.new ≡ released whole.now s.now self.old) }
+    fn release(&mut self, whole: &Whole, s: &Record) -> Result<(), Memory>
+        ensures { OnOk result (self.new ≡ by (released whole.now s.now) self.old) }
     {
         if is_initial(whole.registration) {
             return self.ask(SmfAsk::ReleaseAll, s);
@@ -133,9 +126,9 @@ impl<'a> Work<'a> {
         &mut self,
         number: u16,
         accepting: &Accepting,
-        s: Subscriber,
+        s: Record,
     ) -> Result<(), Memory>
-        ensures { OnOk result (self.new ≡ acceptance_put number accepting.now s self.old) }
+        ensures { OnOk result (self.new ≡ by (acceptance_put number accepting.now s) self.old) }
     {
         self.put(s.copy())?;
         self.send_accept(accepting, number, &s)?;
@@ -144,13 +137,13 @@ impl<'a> Work<'a> {
 
     // A new 5G-GUTI, whose 5G-TMSI is then taken.
     fn next_guti(&mut self) -> Guti
-        requires { self.old.amf.changes.tmsi < 2 ^ 32 }
-        ensures guti { result ≡ new_guti (config_of self.old) (tmsi_of self.old) }
-        ensures taken { self.new ≡ tmsi_taken self.old }
+        requires { self.old.work.amf.tmsi < 2 ^ 32 }
+        ensures guti { result ≡ new_guti (config_of self.old.work) (tmsi_of self.old.work) }
+        ensures taken { self.new ≡ by tmsi_taken self.old }
     {
-        let tmsi = self.amf.tmsi() as u32;
-        let guti = new_guti(self.amf.config(), tmsi);
-        self.amf.take_tmsi();
+        let tmsi = self.tmsi() as u32;
+        let guti = new_guti(self.config(), tmsi);
+        self.take_tmsi();
         guti
     }
 
@@ -161,10 +154,10 @@ impl<'a> Work<'a> {
         request: &Request,
         whole: &Whole,
         challenge: Challenge,
-        s: Subscriber,
+        s: Record,
     ) -> Result<(), Memory>
-        requires { self.old.amf.changes.tmsi < 2 ^ 32 }
-        ensures { OnOk result (self.new ≡ offered number request.now whole.now challenge s self.old) }
+        requires { self.old.work.amf.tmsi < 2 ^ 32 }
+        ensures { OnOk result (self.new ≡ by (offered number request.now whole.now challenge s) self.old) }
     {
         let guti = self.next_guti();
         let accepting = Accepting {
@@ -185,11 +178,11 @@ impl<'a> Work<'a> {
         request: &Request,
         whole: &Whole,
         challenge: Challenge,
-        s: Subscriber,
+        s: Record,
     ) -> Result<(), Memory>
-        ensures { OnOk result (self.new ≡ registration_granted number request.now whole.now challenge s self.old) }
+        ensures { OnOk result (self.new ≡ by (registration_granted number request.now whole.now challenge s) self.old) }
     {
-        if self.amf.tmsi() < NO_TMSI {
+        if self.tmsi() < NO_TMSI {
             return self.offer(number, request, whole, challenge, s);
         }
         self.answer_for(
@@ -209,17 +202,17 @@ impl<'a> Work<'a> {
         request: &Request,
         whole: &Whole,
         context: &Context,
-        s: Subscriber,
+        s: Record,
     ) -> Result<(), Memory>
-        ensures { OnOk result (self.new ≡ registration_goes_on number request.now whole.now context.now s self.old) }
+        ensures { OnOk result (self.new ≡ by (registration_goes_on number request.now whole.now context.now s) self.old) }
     {
         self.release(whole, &s)?;
         self.grant(number, request, whole, context.challenge, s)
     }
 
     // The acceptance ends, if it is still open.
-    fn end_acceptance(&mut self, s: Subscriber) -> Result<(), Memory>
-        ensures { OnOk result (self.new ≡ acceptance_ended s.procedure s self.old) }
+    fn end_acceptance(&mut self, s: Record) -> Result<(), Memory>
+        ensures { OnOk result (self.new ≡ by (acceptance_ended s.procedure s) self.old) }
     {
         match &s.procedure {
             Procedure::Accepting(_) => self.end_open(s),
@@ -231,17 +224,13 @@ impl<'a> Work<'a> {
 
     /// REGISTRATION COMPLETE under the context of this challenge.
     #[tactic(auto, unfolding(crate::specs::Acceptance::registration_completed, nas_base::specs::Branches::chosen, nas_base::specs::Branches::per))]
-    pub fn registration_completed(
-        &mut self,
-        challenge: &Challenge,
-        s: Subscriber,
-    ) -> Result<(), Memory>
-        ensures { OnOk result (self.new ≡ registration_completed challenge.now s self.old) }
+    pub fn registration_completed(&mut self, challenge: &Challenge, s: Record) -> Result<(), Memory>
+        ensures { OnOk result (self.new ≡ by (registration_completed challenge.now s) self.old) }
     {
         let Some(offer) = copied_offer(&s.offered) else {
             return Ok(());
         };
-        if !is_challenge(&offer.challenge, challenge) {
+        if !offer.challenge.equals(challenge) {
             return Ok(());
         }
         self.end_acceptance(confirmed(&offer.guti, s))

@@ -1,11 +1,12 @@
 //! The answers to AUTHENTICATION REQUEST.
 ghost use Rattle.std.specs.Prelude.{◌≡◌, OnOk};
 ghost use Rattle.amf_core.specs.Authentication.{answered, asking_on, authentication_failed, authentication_rejected, challenged_again, commanding, failed_by, is_expected, made, mode_commanded, next_link, responded, resynchronised};
+ghost use Rattle.amf_core.specs.Work.{by};
 
 use crate::challenges::challenge_open;
 use crate::registration::is_on;
 use crate::work::Work;
-use crate::{Authentication, Challenging, Phase, Procedure, Purpose, Subscriber};
+use crate::{Authentication, Challenging, Phase, Procedure, Purpose, Record};
 use key_chain::nas_keys;
 use mm_messages::{AuthenticationFailure, AuthenticationResponse, Mm};
 use nas_base::Memory;
@@ -85,7 +86,7 @@ fn is_expected(res_star: &Option<[u8; 16]>, auth: &Authentication) -> bool
 }
 
 // The link of a challenge that takes the place of another.
-fn next_link(challenging: &Challenging, s: &Subscriber) -> Option<u16>
+fn next_link(challenging: &Challenging, s: &Record) -> Option<u16>
     ensures { result ≡ next_link challenging.now.purpose challenging.now s.now }
 {
     match challenging.purpose {
@@ -96,8 +97,8 @@ fn next_link(challenging: &Challenging, s: &Subscriber) -> Option<u16>
 
 impl<'a> Work<'a> {
     // The context is commanded.
-    fn command_mode(&mut self, asking: &Asking, s: Subscriber) -> Result<(), Memory>
-        ensures { OnOk result (self.new ≡ mode_commanded asking.now s self.old) }
+    fn command_mode(&mut self, asking: &Asking, s: Record) -> Result<(), Memory>
+        ensures { OnOk result (self.new ≡ by (mode_commanded asking.now s) self.old) }
     {
         let challenging = commanding(asking);
         let s = challenge_open(&challenging, s);
@@ -105,8 +106,8 @@ impl<'a> Work<'a> {
     }
 
     // AUTHENTICATION REJECT; the challenge ends.
-    fn reject_authentication(&mut self, number: u16, s: Subscriber) -> Result<(), Memory>
-        ensures { OnOk result (self.new ≡ authentication_rejected number s self.old) }
+    fn reject_authentication(&mut self, number: u16, s: Record) -> Result<(), Memory>
+        ensures { OnOk result (self.new ≡ by (authentication_rejected number s) self.old) }
     {
         self.end_open(s.copy())?;
         self.answer_for(&s, number, Mm::AuthenticationReject)
@@ -119,9 +120,9 @@ impl<'a> Work<'a> {
         response: &AuthenticationResponse,
         number: u16,
         asking: &Asking,
-        s: Subscriber,
+        s: Record,
     ) -> Result<(), Memory>
-        ensures { OnOk result (self.new ≡ answered response.now number asking.now s self.old) }
+        ensures { OnOk result (self.new ≡ by (answered response.now number asking.now s) self.old) }
     {
         if is_expected(&response.res_star, &asking.auth) {
             return self.command_mode(asking, s);
@@ -135,9 +136,9 @@ impl<'a> Work<'a> {
         &mut self,
         response: &AuthenticationResponse,
         number: u16,
-        s: Subscriber,
+        s: Record,
     ) -> Result<(), Memory>
-        ensures { OnOk result (self.new ≡ responded response.now number s self.old) }
+        ensures { OnOk result (self.new ≡ by (responded response.now number s) self.old) }
     {
         match asking_on(number, &s.procedure) {
             Some(asking) => self.answered(response, number, &asking, s),
@@ -150,9 +151,9 @@ impl<'a> Work<'a> {
         &mut self,
         alloc: Global,
         challenging: &Challenging,
-        s: Subscriber,
+        s: Record,
     ) -> Result<(), Memory>
-        ensures { OnOk result (self.new ≡ challenged_again challenging.now s self.old) }
+        ensures { OnOk result (self.new ≡ by (challenged_again challenging.now s) self.old) }
     {
         let link = next_link(challenging, &s);
         self.challenge(alloc, challenging.purpose.copy(), link, None, s)
@@ -165,12 +166,12 @@ impl<'a> Work<'a> {
         alloc: Global,
         auts: &[u8; 14],
         asking: &Asking,
-        s: Subscriber,
+        s: Record,
     ) -> Result<(), Memory>
-        ensures { OnOk result (self.new ≡ resynchronised auts.now asking.now s self.old) }
+        ensures { OnOk result (self.new ≡ by (resynchronised auts.now asking.now s) self.old) }
     {
         let rand = asking.auth.challenge.rand;
-        if self.amf.resync(alloc, &s.supi, &rand, auts)? {
+        if self.resync(alloc, &s.supi, &rand, auts)? {
             return self.challenge_again(alloc, &asking.challenging, s);
         }
         Ok(())
@@ -184,9 +185,9 @@ impl<'a> Work<'a> {
         failure: &AuthenticationFailure,
         number: u16,
         asking: &Asking,
-        s: Subscriber,
+        s: Record,
     ) -> Result<(), Memory>
-        ensures { OnOk result (self.new ≡ failed_by failure.now number asking.now s self.old) }
+        ensures { OnOk result (self.new ≡ by (failed_by failure.now number asking.now s) self.old) }
     {
         match failure.cause {
             MAC_FAILURE | NON_5G_AUTHENTICATION_UNACCEPTABLE => self.reject_authentication(
@@ -208,9 +209,9 @@ impl<'a> Work<'a> {
         alloc: Global,
         failure: &AuthenticationFailure,
         number: u16,
-        s: Subscriber,
+        s: Record,
     ) -> Result<(), Memory>
-        ensures { OnOk result (self.new ≡ authentication_failed failure.now number s self.old) }
+        ensures { OnOk result (self.new ≡ by (authentication_failed failure.now number s) self.old) }
     {
         match asking_on(number, &s.procedure) {
             Some(asking) => self.failed_by(alloc, failure, number, &asking, s),

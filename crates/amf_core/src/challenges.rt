@@ -1,11 +1,12 @@
 //! Challenges: how one starts, what is sent of it, and how a procedure ends.
 ghost use Rattle.std.specs.Prelude.{◌≡◌, ◌^◌, ◌<◌, OnOk};
 ghost use Rattle.amf_core.specs.Challenges.{VectorFits, asked_for, authentication, authentication_request, begun_with, by_vector, capability_of, challenge, challenge_begun, challenge_open, challenge_put, challenge_refused, challenge_sent, chosen_nea, claimed, claimed_one, ended, idle, is_ksi_taken, kamf_of, new_ksi, request_sent, security_mode_command, stopped, told};
+ghost use Rattle.amf_core.specs.Work.{by};
 
 use crate::acts::Protection;
 use crate::work::Work;
-use crate::{Authentication, Challenging, Configured, Phase, Procedure, Purpose, Subscriber};
-use key_chain::{kamf, kausf, kseaf, res_star};
+use crate::{Authentication, Challenging, Configured, Phase, Procedure, Purpose, Record};
+use key_chain::{ABBA, challenge_kamf, res_star};
 use milenage::{HomeRefusal, Vector};
 use mm_messages::{AuthenticationRequest, Mm, SecurityModeCommand};
 use nas_base::mm_cause::PROTOCOL_ERROR_UNSPECIFIED;
@@ -16,15 +17,12 @@ use nas_security::{Challenge, Context};
 use nas_timers::TimerId;
 use std::alloc::Global;
 
-// The ABBA of this release (TS 33.501 Annex A.7.1).
-const ABBA: [u8; 2] = [0, 0];
-
 // Additional 5G security information: the whole initial message is requested (TS 24.501 clause 9.11.3.12).
 const WHOLE_MESSAGE: Asi = Asi(2);
 
 // Whether a new context can't have this number.
 #[tactic(auto, unfolding(nas_base::specs::Branches::per))]
-fn is_ksi_taken(ksi: u8, s: &Subscriber) -> bool
+fn is_ksi_taken(ksi: u8, s: &Record) -> bool
     ensures { result ≡ is_ksi_taken ksi s.now }
 {
     let in_use = match &s.in_use {
@@ -40,7 +38,7 @@ fn is_ksi_taken(ksi: u8, s: &Subscriber) -> bool
 
 // The least number that a new context can have. Two are taken at most.
 #[tactic(auto, unfolding(crate::specs::Challenges::new_ksi))]
-fn new_ksi(s: &Subscriber) -> Ksi
+fn new_ksi(s: &Record) -> Ksi
     ensures { result ≡ new_ksi s.now }
 {
     if !is_ksi_taken(0, s) {
@@ -54,7 +52,7 @@ fn new_ksi(s: &Subscriber) -> Ksi
 
 // The capability that a subscriber told last, or none at all.
 #[tactic(auto, unfolding(nas_base::specs::Branches::per))]
-fn capability_of(s: &Subscriber) -> Capability
+fn capability_of(s: &Record) -> Capability
     ensures { result ≡ capability_of s.now }
 {
     match &s.capability {
@@ -78,13 +76,11 @@ fn chosen_nea(config: &Configured, capability: &Capability) -> u8
 fn kamf_of(config: &Configured, supi: &Supi, v: &Vector) -> [u8; 32]
     ensures { result ≡ kamf_of config.now supi.now v.now }
 {
-    let [a, b, c, d, e, f, ..] = v.autn;
-    let kausf = kausf(&v.ck, &v.ik, &config.plmn, &[a, b, c, d, e, f]);
-    kamf(&kseaf(&kausf, &config.plmn), supi, &ABBA)
+    challenge_kamf(&v.ck, &v.ik, &v.autn, &config.plmn, supi, &ABBA)
 }
 
 // What the answer to a vector is compared with, and what comes of it.
-fn authentication(config: &Configured, v: &Vector, s: &Subscriber) -> Authentication
+fn authentication(config: &Configured, v: &Vector, s: &Record) -> Authentication
     requires { v.now.sqn < 2 ^ 48 }
     ensures { result ≡ authentication config.now v.now s.now }
 {
@@ -127,7 +123,7 @@ fn authentication_request(auth: &Authentication) -> AuthenticationRequest
 fn security_mode_command(
     context: &Context,
     challenging: &Challenging,
-    s: &Subscriber,
+    s: &Record,
 ) -> SecurityModeCommand
     ensures { result ≡ security_mode_command context.now challenging.now s.now }
 {
@@ -140,20 +136,20 @@ fn security_mode_command(
 }
 
 /// A subscriber with a challenge.
-pub fn challenge_open(challenging: &Challenging, s: Subscriber) -> Subscriber
+pub fn challenge_open(challenging: &Challenging, s: Record) -> Record
     ensures { result ≡ challenge_open challenging.now s }
 {
-    Subscriber {
+    Record {
         procedure: Procedure::Challenging(challenging.copy()),
         ..s
     }
 }
 
 /// A subscriber without a procedure.
-pub fn idle(s: Subscriber) -> Subscriber
+pub fn idle(s: Record) -> Record
     ensures { result ≡ idle s }
 {
-    Subscriber {
+    Record {
         procedure: Procedure::Idle,
         ..s
     }
@@ -161,11 +157,11 @@ pub fn idle(s: Subscriber) -> Subscriber
 
 // A subscriber with the capability that it tells, if it does.
 #[tactic(auto, unfolding(nas_base::specs::Branches::per))]
-fn told(capability: Option<Capability>, s: Subscriber) -> Subscriber
+fn told(capability: Option<Capability>, s: Record) -> Record
     ensures { result ≡ told capability s }
 {
     match capability {
-        Some(capability) => Subscriber {
+        Some(capability) => Record {
             capability: Some(capability),
             ..s
         },
@@ -176,8 +172,8 @@ fn told(capability: Option<Capability>, s: Subscriber) -> Subscriber
 impl<'a> Work<'a> {
     /// The timer of what is open is stopped.
     #[tactic(auto, unfolding(crate::specs::Challenges::stopped))]
-    pub fn stop_open(&mut self, s: &Subscriber) -> Result<(), Memory>
-        ensures { OnOk result (self.new ≡ stopped s.now self.old) }
+    pub fn stop_open(&mut self, s: &Record) -> Result<(), Memory>
+        ensures { OnOk result (self.new ≡ by (stopped s.now) self.old) }
     {
         match &s.procedure {
             Procedure::Idle => Ok(()),
@@ -189,21 +185,16 @@ impl<'a> Work<'a> {
 
     /// What is open ends.
     #[tactic(auto, unfolding(crate::specs::Challenges::ended))]
-    pub fn end_open(&mut self, s: Subscriber) -> Result<(), Memory>
-        ensures { OnOk result (self.new ≡ ended s self.old) }
+    pub fn end_open(&mut self, s: Record) -> Result<(), Memory>
+        ensures { OnOk result (self.new ≡ by (ended s) self.old) }
     {
         self.stop_open(&s)?;
         self.put(idle(s))
     }
 
     // AUTHENTICATION REQUEST is sent.
-    fn send_request(
-        &mut self,
-        auth: &Authentication,
-        number: u16,
-        s: &Subscriber,
-    ) -> Result<(), Memory>
-        ensures { OnOk result (self.new ≡ request_sent auth.now number s.now self.old) }
+    fn send_request(&mut self, auth: &Authentication, number: u16, s: &Record) -> Result<(), Memory>
+        ensures { OnOk result (self.new ≡ by (request_sent auth.now number s.now) self.old) }
     {
         let message = Mm::AuthenticationRequest(authentication_request(auth));
         self.answer_for(s, number, message)
@@ -211,8 +202,8 @@ impl<'a> Work<'a> {
 
     // What a challenge waits for the answer to.
     #[tactic(auto, unfolding(crate::specs::Challenges::challenge_sent, nas_base::specs::Branches::per))]
-    fn send_challenge(&mut self, challenging: &Challenging, s: &Subscriber) -> Result<(), Memory>
-        ensures { OnOk result (self.new ≡ challenge_sent challenging.now s.now self.old) }
+    fn send_challenge(&mut self, challenging: &Challenging, s: &Record) -> Result<(), Memory>
+        ensures { OnOk result (self.new ≡ by (challenge_sent challenging.now s.now) self.old) }
     {
         match &challenging.phase {
             Phase::Auth(auth) => match challenging.link {
@@ -232,8 +223,8 @@ impl<'a> Work<'a> {
     }
 
     /// A challenge stands as the subscriber's procedure, what it waits for is sent, and its timer runs.
-    pub fn put_challenge(&mut self, challenging: &Challenging, s: Subscriber) -> Result<(), Memory>
-        ensures { OnOk result (self.new ≡ challenge_put challenging.now s self.old) }
+    pub fn put_challenge(&mut self, challenging: &Challenging, s: Record) -> Result<(), Memory>
+        ensures { OnOk result (self.new ≡ by (challenge_put challenging.now s) self.old) }
     {
         self.put(s.copy())?;
         self.send_challenge(challenging, &s)?;
@@ -243,7 +234,7 @@ impl<'a> Work<'a> {
     // The subscriber is that of the link which it was last challenged on.
     #[tactic(auto, unfolding(nas_base::specs::Branches::per))]
     fn claim(&mut self, link: Option<u16>, supi: &Supi) -> Result<(), Memory>
-        ensures { OnOk result (self.new ≡ claimed link supi.now self.old) }
+        ensures { OnOk result (self.new ≡ by (claimed link supi.now) self.old) }
     {
         match link {
             Some(number) => self.claim_one(number, supi),
@@ -253,9 +244,9 @@ impl<'a> Work<'a> {
 
     // The same of a link that there is.
     fn claim_one(&mut self, number: u16, supi: &Supi) -> Result<(), Memory>
-        ensures { OnOk result (self.new ≡ claimed_one number supi.now self.old) }
+        ensures { OnOk result (self.new ≡ by (claimed_one number supi.now) self.old) }
     {
-        let mut link = self.amf.link(number);
+        let mut link = self.link(number);
         link.supi = Some(supi.copy());
         self.put_link(link)
     }
@@ -267,12 +258,12 @@ impl<'a> Work<'a> {
         purpose: Purpose,
         link: Option<u16>,
         v: &Vector,
-        s: Subscriber,
+        s: Record,
     ) -> Result<(), Memory>
         requires { v.now.sqn < 2 ^ 48 }
-        ensures { OnOk result (self.new ≡ challenge_begun purpose link v.now s self.old) }
+        ensures { OnOk result (self.new ≡ by (challenge_begun purpose link v.now s) self.old) }
     {
-        let auth = authentication(self.amf.config(), v, &s);
+        let auth = authentication(self.config(), v, &s);
         self.begin_with(auth, purpose, link, s)
     }
 
@@ -282,9 +273,9 @@ impl<'a> Work<'a> {
         auth: Authentication,
         purpose: Purpose,
         link: Option<u16>,
-        s: Subscriber,
+        s: Record,
     ) -> Result<(), Memory>
-        ensures { OnOk result (self.new ≡ begun_with auth purpose link s self.old) }
+        ensures { OnOk result (self.new ≡ by (begun_with auth purpose link s) self.old) }
     {
         self.claim(link, &s.supi)?;
         let challenging = Challenging {
@@ -293,7 +284,7 @@ impl<'a> Work<'a> {
             phase: Phase::Auth(auth),
             sendings: 1,
         };
-        let s = Subscriber {
+        let s = Record {
             last_ksi: Some(auth.ksi),
             ..s
         };
@@ -304,7 +295,7 @@ impl<'a> Work<'a> {
     // A challenge that there is no vector for.
     #[tactic(auto, unfolding(nas_base::specs::Branches::per))]
     fn refuse_challenge(&mut self, purpose: &Purpose, link: Option<u16>) -> Result<(), Memory>
-        ensures { OnOk result (self.new ≡ challenge_refused purpose.now link self.old) }
+        ensures { OnOk result (self.new ≡ by (challenge_refused purpose.now link) self.old) }
     {
         match purpose {
             Purpose::Registration(_) => match link {
@@ -322,10 +313,10 @@ impl<'a> Work<'a> {
         purpose: Purpose,
         link: Option<u16>,
         capability: Option<Capability>,
-        s: Subscriber,
+        s: Record,
     ) -> Result<(), Memory>
         requires { VectorFits answer }
-        ensures { OnOk result (self.new ≡ by_vector answer purpose link capability s self.old) }
+        ensures { OnOk result (self.new ≡ by (by_vector answer purpose link capability s) self.old) }
     {
         match answer {
             Ok(v) => self.begin_challenge(purpose, link, &v, told(capability, idle(s))),
@@ -344,13 +335,12 @@ impl<'a> Work<'a> {
         purpose: Purpose,
         link: Option<u16>,
         capability: Option<Capability>,
-        s: Subscriber,
+        s: Record,
     ) -> Result<(), Memory>
-        ensures { OnOk result (self.new ≡ challenge purpose link capability s self.old) }
+        ensures { OnOk result (self.new ≡ by (challenge purpose link capability s) self.old) }
     {
         self.stop_open(&s)?;
-        let rand = self.rand;
-        let answer = self.amf.challenge(alloc, &s.supi, &rand)?;
+        let answer = self.next_vector(alloc, &s.supi)?;
         self.by_vector(answer, purpose, link, capability, s)
     }
 }

@@ -1,20 +1,21 @@
 //! De-registration, by the handset and by the network.
 ghost use Rattle.std.specs.Prelude.{◌≡◌, OnOk};
 ghost use Rattle.amf_core.specs.Deregistration.{deregistered, deregistration_accepted, deregistration_put, deregistration_requested, deregistration_sent, is_deregistering, unregistered};
+ghost use Rattle.amf_core.specs.Work.{by};
 
 use crate::acts::Protection;
 use crate::registration::is_on;
 use crate::work::Work;
-use crate::{Deregistering, Procedure, SmfAsk, Subscriber};
+use crate::{Deregistering, Procedure, Record, SmfAsk};
 use mm_messages::{DeregistrationRequestUeOriginating, DeregistrationRequestUeTerminated, Mm};
 use nas_base::Memory;
 use nas_timers::TimerId;
 
 /// A subscriber that isn't registered, without a procedure.
-pub fn unregistered(s: Subscriber) -> Subscriber
+pub fn unregistered(s: Record) -> Record
     ensures { result ≡ unregistered s }
 {
-    Subscriber {
+    Record {
         procedure: Procedure::Idle,
         registered: false,
         ..s
@@ -34,8 +35,8 @@ fn is_deregistering(procedure: &Procedure) -> bool
 impl<'a> Work<'a> {
     // Not registered any more.
     #[tactic(auto, unfolding(crate::specs::Deregistration::deregistered))]
-    fn deregister(&mut self, s: &Subscriber) -> Result<(), Memory>
-        ensures { OnOk result (self.new ≡ deregistered s.now self.old) }
+    fn deregister(&mut self, s: &Record) -> Result<(), Memory>
+        ensures { OnOk result (self.new ≡ by (deregistered s.now) self.old) }
     {
         self.stop_open(s)?;
         self.put(unregistered(s.copy()))?;
@@ -48,9 +49,9 @@ impl<'a> Work<'a> {
         &mut self,
         request: &DeregistrationRequestUeOriginating,
         number: u16,
-        s: &Subscriber,
+        s: &Record,
     ) -> Result<(), Memory>
-        ensures { OnOk result (self.new ≡ deregistration_requested request.now number s.now self.old) }
+        ensures { OnOk result (self.new ≡ by (deregistration_requested request.now number s.now) self.old) }
     {
         self.deregister(s)?;
         if request.switch_off {
@@ -65,8 +66,8 @@ impl<'a> Work<'a> {
 
     /// DEREGISTRATION ACCEPT of the handset.
     #[tactic(auto, unfolding(crate::specs::Deregistration::deregistration_accepted, nas_base::specs::Branches::chosen))]
-    pub fn deregistration_accepted(&mut self, number: u16, s: &Subscriber) -> Result<(), Memory>
-        ensures { OnOk result (self.new ≡ deregistration_accepted number s.now self.old) }
+    pub fn deregistration_accepted(&mut self, number: u16, s: &Record) -> Result<(), Memory>
+        ensures { OnOk result (self.new ≡ by (deregistration_accepted number s.now) self.old) }
     {
         if is_deregistering(&s.procedure) && is_on(number, s.link) {
             return self.deregister(s);
@@ -75,8 +76,8 @@ impl<'a> Work<'a> {
     }
 
     // DEREGISTRATION REQUEST of the network.
-    fn send_deregistration(&mut self, s: &Subscriber) -> Result<(), Memory>
-        ensures { OnOk result (self.new ≡ deregistration_sent s.now self.old) }
+    fn send_deregistration(&mut self, s: &Record) -> Result<(), Memory>
+        ensures { OnOk result (self.new ≡ by (deregistration_sent s.now) self.old) }
     {
         self.say_on(
             s.link,
@@ -89,11 +90,11 @@ impl<'a> Work<'a> {
     }
 
     /// A de-registration by the network stands as the subscriber's procedure, its request is sent, and its timer runs.
-    pub fn put_deregistration(&mut self, sendings: u8, s: &Subscriber) -> Result<(), Memory>
-        ensures { OnOk result (self.new ≡ deregistration_put (record { sendings = sendings }) s.now self.old) }
+    pub fn put_deregistration(&mut self, sendings: u8, s: &Record) -> Result<(), Memory>
+        ensures { OnOk result (self.new ≡ by (deregistration_put (record { sendings = sendings }) s.now) self.old) }
     {
         let procedure = Procedure::Deregistering(Deregistering { sendings });
-        self.put(Subscriber {
+        self.put(Record {
             procedure,
             ..s.copy()
         })?;

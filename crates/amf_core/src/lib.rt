@@ -28,8 +28,6 @@ mod security_mode;
 mod service;
 mod stepping;
 mod subscriber;
-#[cfg(test)]
-mod tests;
 mod transport;
 mod view;
 mod work;
@@ -37,13 +35,14 @@ mod work;
 pub use crate::amf::Amf;
 pub use crate::changes::Changes;
 pub use crate::config::{AmfConfig, AmfSubscriber, AmfSubscribers, Configured};
+pub use crate::draft::Draft;
 pub use crate::inputs::{AmfInput, AmfRefusal};
 pub use crate::link::Link;
 pub use crate::outs::{AmfOut, AmfOuts, SmfAsk, SmfCall};
 pub use crate::procedures::{
     Accepting, Authentication, Challenging, Deregistering, Phase, Procedure, Purpose,
 };
-pub use crate::requests::{Named, Request};
-pub use crate::stepping::{Done, follow, step};
-pub use crate::subscriber::{Gutis, KeptGuti, Offer, Subscriber};
+pub use crate::requests::{KeptIdentity, Request};
+pub use crate::stepping::{follow, step};
+pub use crate::subscriber::{Gutis, KeptGuti, Offer, Record};
 pub use crate::view::NetView;

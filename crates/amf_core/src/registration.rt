@@ -2,11 +2,12 @@
 ghost use Rattle.std.specs.Prelude.{◌≡◌, OnOk};
 ghost use Rattle.amf_core.specs.Naming.{keeper, named_by_suci};
 ghost use Rattle.amf_core.specs.Registration.{accept, accept_sent, acceptance, counting_capability, equal_acceptance, identity_wanted, is_capable, is_emergency, is_enough, is_granted, is_on, is_periodic, is_purpose, is_running, kept, periodic_accepted, registration_requested, request_by_guti, request_by_identity, request_by_suci, request_weighed, requested};
+ghost use Rattle.amf_core.specs.Work.{by};
 
 use crate::acts::Protection;
 use crate::requests::{copied, copied_suci};
 use crate::work::Work;
-use crate::{Accepting, Configured, Named, Procedure, Purpose, Request, Subscriber};
+use crate::{Accepting, Configured, KeptIdentity, Procedure, Purpose, Record, Request};
 use mm_messages::{IdentityRequest, Mm, RegistrationAccept, RegistrationRequest, RegistrationType};
 use nas_base::mm_cause::{
     ILLEGAL_UE, PROTOCOL_ERROR_UNSPECIFIED, UE_IDENTITY_CANNOT_BE_DERIVED_BY_THE_NETWORK,
@@ -43,7 +44,7 @@ fn is_enough(capability: &Capability) -> bool
 
 // The capability that counts: the one that the request tells, else the one that the subscriber told last.
 #[tactic(auto, unfolding(nas_base::specs::Branches::per))]
-fn counting_capability(request: &Request, s: &Subscriber) -> Option<Capability>
+fn counting_capability(request: &Request, s: &Record) -> Option<Capability>
     ensures { result ≡ counting_capability request.now s.now }
 {
     match &request.capability {
@@ -54,7 +55,7 @@ fn counting_capability(request: &Request, s: &Subscriber) -> Option<Capability>
 
 // Whether the capability that counts is there, and enough.
 #[tactic(auto, unfolding(nas_base::specs::Branches::per))]
-fn is_capable(request: &Request, s: &Subscriber) -> bool
+fn is_capable(request: &Request, s: &Record) -> bool
     ensures { result ≡ is_capable request.now s.now }
 {
     match counting_capability(request, s) {
@@ -64,7 +65,7 @@ fn is_capable(request: &Request, s: &Subscriber) -> bool
 }
 
 // What is kept of a request, beside who sent it.
-fn kept(request: &RegistrationRequest, identity: Named) -> Request
+fn kept(request: &RegistrationRequest, identity: KeptIdentity) -> Request
     ensures { result ≡ kept request.now identity }
 {
     Request {
@@ -130,7 +131,7 @@ fn accept(config: &Configured, slices: &Nssai, guti: Option<Guti>, status: Optio
 }
 
 /// REGISTRATION ACCEPT of an acceptance.
-pub fn acceptance(config: &Configured, accepting: &Accepting, s: &Subscriber) -> Mm
+pub fn acceptance(config: &Configured, accepting: &Accepting, s: &Record) -> Mm
     ensures { result ≡ acceptance config.now accepting.now s.now }
 {
     accept(
@@ -165,7 +166,7 @@ fn is_emergency(registration: RegistrationType) -> bool
 
 // Whether a periodic request passed for its subscriber, who is registered.
 #[tactic(auto, unfolding(nas_base::specs::Branches::per))]
-fn is_granted(passed: &Option<Supi>, request: &Request, s: &Subscriber) -> bool
+fn is_granted(passed: &Option<Supi>, request: &Request, s: &Record) -> bool
     ensures { result ≡ is_granted passed.now request.now s.now }
 {
     let is_own = match passed {
@@ -181,19 +182,19 @@ impl<'a> Work<'a> {
         &mut self,
         accepting: &Accepting,
         number: u16,
-        s: &Subscriber,
+        s: &Record,
     ) -> Result<(), Memory>
-        ensures { OnOk result (self.new ≡ accept_sent accepting.now number s.now self.old) }
+        ensures { OnOk result (self.new ≡ by (accept_sent accepting.now number s.now) self.old) }
     {
-        let message = acceptance(self.amf.config(), accepting, s);
+        let message = acceptance(self.config(), accepting, s);
         self.say(number, Protection::Ciphered(s.supi.copy()), message)
     }
 
     // REGISTRATION ACCEPT of a periodic request.
-    fn accept_periodic(&mut self, number: u16, s: &Subscriber) -> Result<(), Memory>
-        ensures { OnOk result (self.new ≡ periodic_accepted number s.now self.old) }
+    fn accept_periodic(&mut self, number: u16, s: &Record) -> Result<(), Memory>
+        ensures { OnOk result (self.new ≡ by (periodic_accepted number s.now) self.old) }
     {
-        let message = accept(self.amf.config(), &s.slices, None, None);
+        let message = accept(self.config(), &s.slices, None, None);
         self.say(number, Protection::Ciphered(s.supi.copy()), message)
     }
 
@@ -205,9 +206,9 @@ impl<'a> Work<'a> {
         number: u16,
         passed: &Option<Supi>,
         request: Request,
-        s: Subscriber,
+        s: Record,
     ) -> Result<(), Memory>
-        ensures { OnOk result (self.new ≡ request_weighed number passed.now request s self.old) }
+        ensures { OnOk result (self.new ≡ by (request_weighed number passed.now request s) self.old) }
     {
         if is_running(number, &request, &s.procedure) {
             return Ok(());
@@ -236,9 +237,9 @@ impl<'a> Work<'a> {
         number: u16,
         passed: &Option<Supi>,
         request: Request,
-        s: Subscriber,
+        s: Record,
     ) -> Result<(), Memory>
-        ensures { OnOk result (self.new ≡ requested number passed.now request s self.old) }
+        ensures { OnOk result (self.new ≡ by (requested number passed.now request s) self.old) }
     {
         if !is_capable(&request, &s) {
             return self.reject(number, UE_SECURITY_CAPABILITIES_MISMATCH);
@@ -248,9 +249,9 @@ impl<'a> Work<'a> {
 
     // A request waits for the identity of who sent it, which is asked for.
     fn want_identity(&mut self, number: u16, request: Request) -> Result<(), Memory>
-        ensures { OnOk result (self.new ≡ identity_wanted number request self.old) }
+        ensures { OnOk result (self.new ≡ by (identity_wanted number request) self.old) }
     {
-        let mut link = self.amf.link(number);
+        let mut link = self.link(number);
         link.waiting = Some(request);
         self.put_link(link)?;
         self.answer(
@@ -269,9 +270,9 @@ impl<'a> Work<'a> {
         number: u16,
         passed: &Option<Supi>,
         request: Request,
-        s: Option<Subscriber>,
+        s: Option<Record>,
     ) -> Result<(), Memory>
-        ensures { OnOk result (self.new ≡ request_by_suci number passed.now request s self.old) }
+        ensures { OnOk result (self.new ≡ by (request_by_suci number passed.now request s) self.old) }
     {
         match s {
             Some(s) => self.requested(alloc, number, passed, request, s),
@@ -287,9 +288,9 @@ impl<'a> Work<'a> {
         number: u16,
         passed: &Option<Supi>,
         request: Request,
-        s: Option<Subscriber>,
+        s: Option<Record>,
     ) -> Result<(), Memory>
-        ensures { OnOk result (self.new ≡ request_by_guti number passed.now request s self.old) }
+        ensures { OnOk result (self.new ≡ by (request_by_guti number passed.now request s) self.old) }
     {
         match s {
             Some(s) => self.requested(alloc, number, passed, request, s),
@@ -306,7 +307,7 @@ impl<'a> Work<'a> {
         request: Request,
         suci: &Suci,
     ) -> Result<(), Memory>
-        ensures { OnOk result (self.new ≡ request_by_suci number passed.now request (named_by_suci suci.now self.old) self.old) }
+        ensures { OnOk result (self.new ≡ by (request_by_suci number passed.now request (named_by_suci suci.now self.old.work)) self.old) }
     {
         let s = self.named_by_suci(suci);
         self.request_by_suci(alloc, number, passed, request, s)
@@ -321,7 +322,7 @@ impl<'a> Work<'a> {
         request: Request,
         guti: &Guti,
     ) -> Result<(), Memory>
-        ensures { OnOk result (self.new ≡ request_by_guti number passed.now request (keeper guti.now self.old) self.old) }
+        ensures { OnOk result (self.new ≡ by (request_by_guti number passed.now request (keeper guti.now self.old.work)) self.old) }
     {
         let s = self.keeper(guti);
         self.request_by_guti(alloc, number, passed, request, s)
@@ -335,15 +336,15 @@ impl<'a> Work<'a> {
         number: u16,
         passed: &Option<Supi>,
     ) -> Result<(), Memory>
-        ensures { OnOk result (self.new ≡ request_by_identity request.now.identity request.now number passed.now self.old) }
+        ensures { OnOk result (self.new ≡ by (request_by_identity request.now.identity request.now number passed.now) self.old) }
     {
         match &request.identity {
             Identity::Suci(suci) => {
-                let kept = kept(request, Named::Suci(copied_suci(suci)));
+                let kept = kept(request, KeptIdentity::Suci(copied_suci(suci)));
                 self.request_of_suci(alloc, number, passed, kept, suci)
             }
             Identity::Guti(guti) => {
-                let kept = kept(request, Named::Guti(guti.copy()));
+                let kept = kept(request, KeptIdentity::Guti(guti.copy()));
                 self.request_of_guti(alloc, number, passed, kept, guti)
             }
             Identity::Stmsi(_) | Identity::Other(_) => {
@@ -361,7 +362,7 @@ impl<'a> Work<'a> {
         number: u16,
         passed: &Option<Supi>,
     ) -> Result<(), Memory>
-        ensures { OnOk result (self.new ≡ registration_requested request.now number passed.now self.old) }
+        ensures { OnOk result (self.new ≡ by (registration_requested request.now number passed.now) self.old) }
     {
         if is_emergency(request.registration) {
             return self.reject(number, PROTOCOL_ERROR_UNSPECIFIED);

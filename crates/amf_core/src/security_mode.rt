@@ -1,12 +1,13 @@
 //! The answers to SECURITY MODE COMMAND.
 ghost use Rattle.std.specs.Prelude.{◌≡◌, Ok, IfOk, OnOk};
 ghost use Rattle.amf_core.specs.SecurityMode.{commanding_of, commanding_on, completed, goes_on, in_use, mode_completed, mode_rejected, switched, whole_by, whole_in, whole_of, whole_with};
+ghost use Rattle.amf_core.specs.Work.{by};
 
 use crate::acceptance::Whole;
 use crate::naming::suci_digits;
 use crate::registration::is_on;
 use crate::work::Work;
-use crate::{Challenging, Phase, Procedure, Purpose, SmfAsk, Subscriber};
+use crate::{Challenging, Phase, Procedure, Purpose, Record, SmfAsk};
 use mm_messages::{Mm, MmRefusal, RegistrationRequest, SecurityModeComplete, decode_mm};
 use nas_base::{Memory, Octets};
 use nas_elements::{Guti, Identity};
@@ -61,7 +62,7 @@ fn whole_with(guti: Option<Guti>, request: &RegistrationRequest) -> Whole
 
 // The same, where the request names this subscriber.
 #[tactic(auto, unfolding(nas_base::specs::Branches::chosen))]
-fn whole_by(request: &RegistrationRequest, s: &Subscriber) -> Option<Whole>
+fn whole_by(request: &RegistrationRequest, s: &Record) -> Option<Whole>
     ensures { result ≡ whole_by request.now.identity request.now s.now }
 {
     match &request.identity {
@@ -78,7 +79,7 @@ fn whole_by(request: &RegistrationRequest, s: &Subscriber) -> Option<Whole>
 }
 
 // The same, where the message is a REGISTRATION REQUEST.
-fn whole_of(message: &Mm, s: &Subscriber) -> Option<Whole>
+fn whole_of(message: &Mm, s: &Record) -> Option<Whole>
     ensures { result ≡ whole_of (Ok message.now) s.now }
 {
     match message {
@@ -89,11 +90,7 @@ fn whole_of(message: &Mm, s: &Subscriber) -> Option<Whole>
 
 // The whole request in SECURITY MODE COMPLETE.
 #[tactic(auto, unfolding(nas_base::specs::Branches::per))]
-fn whole_in(
-    alloc: Global,
-    message: &Option<Octets>,
-    s: &Subscriber,
-) -> Result<Option<Whole>, Memory>
+fn whole_in(alloc: Global, message: &Option<Octets>, s: &Record) -> Result<Option<Whole>, Memory>
     ensures { IfOk result (λ whole. whole ≡ whole_in message.now s.now) }
 {
     let Some(octets) = message else {
@@ -109,10 +106,10 @@ fn whole_in(
 }
 
 // A subscriber whose context is in use.
-fn in_use(context: Context, s: Subscriber) -> Subscriber
+fn in_use(context: Context, s: Record) -> Record
     ensures { result ≡ in_use context s }
 {
-    Subscriber {
+    Record {
         procedure: Procedure::Idle,
         in_use: Some(context),
         ..s
@@ -122,8 +119,8 @@ fn in_use(context: Context, s: Subscriber) -> Subscriber
 impl<'a> Work<'a> {
     /// SECURITY MODE REJECT.
     #[tactic(auto, unfolding(crate::specs::SecurityMode::mode_rejected, nas_base::specs::Branches::per))]
-    pub fn mode_rejected(&mut self, number: u16, s: Subscriber) -> Result<(), Memory>
-        ensures { OnOk result (self.new ≡ mode_rejected number s self.old) }
+    pub fn mode_rejected(&mut self, number: u16, s: Record) -> Result<(), Memory>
+        ensures { OnOk result (self.new ≡ by (mode_rejected number s) self.old) }
     {
         match commanding_on(number, &s.procedure) {
             Some(_) => self.end_open(s),
@@ -132,8 +129,8 @@ impl<'a> Work<'a> {
     }
 
     // The context is in use from now on.
-    fn switch(&mut self, commanding: &Commanding, s: &Subscriber) -> Result<(), Memory>
-        ensures { OnOk result (self.new ≡ switched commanding.now s.now self.old) }
+    fn switch(&mut self, commanding: &Commanding, s: &Record) -> Result<(), Memory>
+        ensures { OnOk result (self.new ≡ by (switched commanding.now s.now) self.old) }
     {
         self.stop_open(s)?;
         self.put(in_use(commanding.context, s.copy()))?;
@@ -148,9 +145,9 @@ impl<'a> Work<'a> {
         whole: Option<Whole>,
         number: u16,
         context: &Context,
-        s: Subscriber,
+        s: Record,
     ) -> Result<(), Memory>
-        ensures { OnOk result (self.new ≡ goes_on purpose.now whole number context.now s self.old) }
+        ensures { OnOk result (self.new ≡ by (goes_on purpose.now whole number context.now s) self.old) }
     {
         match (purpose, whole) {
             (Purpose::Registration(request), Some(whole)) => self.registration_goes_on(
@@ -167,9 +164,9 @@ impl<'a> Work<'a> {
         complete: &SecurityModeComplete,
         number: u16,
         commanding: &Commanding,
-        s: Subscriber,
+        s: Record,
     ) -> Result<(), Memory>
-        ensures { OnOk result (self.new ≡ completed complete.now number commanding.now s self.old) }
+        ensures { OnOk result (self.new ≡ by (completed complete.now number commanding.now s) self.old) }
     {
         let whole = whole_in(alloc, &complete.message, &s)?;
         self.switch(commanding, &s)?;
@@ -190,9 +187,9 @@ impl<'a> Work<'a> {
         alloc: Global,
         complete: &SecurityModeComplete,
         number: u16,
-        s: Subscriber,
+        s: Record,
     ) -> Result<(), Memory>
-        ensures { OnOk result (self.new ≡ mode_completed complete.now number s self.old) }
+        ensures { OnOk result (self.new ≡ by (mode_completed complete.now number s) self.old) }
     {
         match commanding_of(&s.procedure) {
             Some(commanding) => self.completed(alloc, complete, number, &commanding, s),

@@ -1,10 +1,11 @@
 //! The transport of 5GSM messages.
 ghost use Rattle.std.specs.Prelude.{◌≡◌, OnOk};
 ghost use Rattle.amf_core.specs.Transport.{brought_down, not_forwarded, session_of, transported};
+ghost use Rattle.amf_core.specs.Work.{by};
 
 use crate::acts::Protection;
 use crate::work::Work;
-use crate::{SmfAsk, Subscriber};
+use crate::{Record, SmfAsk};
 use mm_messages::{DlNasTransport, Mm, UlNasTransport};
 use nas_base::mm_cause::PAYLOAD_WAS_NOT_FORWARDED;
 use nas_base::{Memory, Octets, Psi};
@@ -34,9 +35,9 @@ impl<'a> Work<'a> {
         &mut self,
         transport: UlNasTransport,
         number: u16,
-        s: &Subscriber,
+        s: &Record,
     ) -> Result<(), Memory>
-        ensures { OnOk result (self.new ≡ not_forwarded transport number s.now self.old) }
+        ensures { OnOk result (self.new ≡ by (not_forwarded transport number s.now) self.old) }
     {
         self.say(
             number,
@@ -57,9 +58,9 @@ impl<'a> Work<'a> {
         transport: UlNasTransport,
         number: u16,
         challenge: Challenge,
-        s: &Subscriber,
+        s: &Record,
     ) -> Result<(), Memory>
-        ensures { OnOk result (self.new ≡ transported transport number challenge s.now self.old) }
+        ensures { OnOk result (self.new ≡ by (transported transport number challenge s.now) self.old) }
     {
         let Some(psi) = session_of(transport.container_type, transport.psi) else {
             return self.not_forwarded(transport, number, s);
@@ -78,8 +79,8 @@ impl<'a> Work<'a> {
 
     /// DL NAS TRANSPORT with a 5GSM message of the SMF.
     #[tactic(auto, unfolding(crate::specs::Transport::brought_down))]
-    pub fn bring_down(&mut self, psi: Psi, frame: Octets, s: &Subscriber) -> Result<(), Memory>
-        ensures { OnOk result (self.new ≡ brought_down psi frame s.now self.old) }
+    pub fn bring_down(&mut self, psi: Psi, frame: Octets, s: &Record) -> Result<(), Memory>
+        ensures { OnOk result (self.new ≡ by (brought_down psi frame s.now) self.old) }
     {
         self.say_on(
             s.link,

@@ -1,5 +1,4 @@
 pub mod AnswerRows
-pub mod Branching
 pub mod Chains
 pub mod ChallengeRows
 pub mod DeliveryRows
@@ -7,6 +6,7 @@ pub mod EventRows
 pub mod FitLaws
 pub mod FramedFit
 pub mod KeptLaws
+pub mod LengthLaws
 pub mod LinkRecords
 pub mod MarkLaws
 pub mod Moves
@@ -15,6 +15,7 @@ pub mod PassedLaws
 pub mod Records
 pub mod RegistrationRows
 pub mod StepRows
+pub mod SupiLaws
 pub mod TimerLaws
 pub mod Told
 pub mod UncheckedLaws

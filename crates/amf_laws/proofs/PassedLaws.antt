@@ -10,21 +10,19 @@ use Rattle.nas_security.specs.declared.verdicts.Verdict.{Verdict}
 use Rattle.nas_security.specs.declared.verdicts.Verdict.TheVariants as verdicts
 use Rattle.amf_core.specs.Checks.{Opened, Passage, checked_in_use, checked_pending, opened, opened_by, passed_in_use, passed_pending}
 use Rattle.amf_core.specs.Delivery.{freshened, received}
-use Rattle.amf_core.specs.Framing.{framed, framed_all}
+use Rattle.amf_core.specs.Framing.{Framed, framed, framed_all}
 use Rattle.amf_core.specs.SecurityMode.{commanding_on}
-use Rattle.amf_core.specs.State.{AmfState, is_same_subscriber}
+use Rattle.amf_core.specs.State.{AmfState}
 use Rattle.amf_core.specs.Step.{ended, started, worked}
 use Rattle.nas_timers.specs.Durations.{deadline_after, duration_of}
-use Rattle.amf_core.specs.Work.{config_of, put, put_link}
+use Rattle.amf_core.specs.Work.{Work, config_of, put, put_link}
 use Rattle.amf_core.specs.declared.acts.Act.{Act}
 use Rattle.amf_core.specs.declared.acts.Act.TheVariants.{Say, Tell}
 use Rattle.amf_core.specs.declared.acts.Protection.{Protection}
-use Rattle.amf_core.specs.declared.framing.Framed.{Framed}
 use Rattle.amf_core.specs.declared.outs.AmfOut.{AmfOut}
 use Rattle.amf_core.specs.declared.outs.AmfOut.TheVariants.{Send, Passed, Smf, Start, Stop}
-use Rattle.amf_core.specs.declared.subscriber.Subscriber.{Subscriber}
-use Rattle.amf_core.specs.declared.work.Work.{Work}
-use Rattle.amf_laws.proofs.Branching.{per_holds, when_holds}
+use Rattle.amf_core.specs.declared.subscriber.Record.{Record}
+use Rattle.nas_base.proofs.Branching.{per_holds, when_holds}
 use Rattle.amf_laws.proofs.Chains.{Chain, IsChecked, Received, kept_now}
 use Rattle.amf_laws.proofs.Chains.Chain.{nothing, speaks, waits, passes, does}
 use Rattle.amf_laws.proofs.DeliveryRows.{received_chain}
@@ -32,7 +30,6 @@ use Rattle.amf_laws.proofs.FramedFit.{Sends, says_send}
 use Rattle.amf_laws.proofs.FramedFit.Sends.{unsent, goes, counts}
 use Rattle.amf_laws.proofs.Moves.{Beginning, Moves}
 use Rattle.amf_laws.proofs.Moves.Moves.{here, said, asked, starts, stops, puts, links, homes, numbers}
-use Rattle.amf_laws.proofs.Records.{unchanged_stay}
 use Rattle.amf_laws.proofs.TimerLaws.{any_may}
 use Rattle.amf_laws.specs.Passing.{AllPassed, IsAmong, OpensWherePassing, Uplinks, WasChecked}
 use Rattle.amf_laws.specs.Timers.{Running}
@@ -108,7 +105,7 @@ abbrev pub pass_told : Passage → Pass
 pass_told p = record { supi = p.check.subscriber.supi; challenge = p.check.challenge; count = p.check.count }
 
 chain_passed : (P : Pass → Type 0) {May : List ℕ → Type 0} {u : Received} {w : Work} → ActsPassed P u.first.acts
-    → ((s : Subscriber) (p : Passage) → IsAmong s (kept_now u.first) → IsChecked u.number u.octets s p → P (pass_told p))
+    → ((s : Record) (p : Passage) → IsAmong s (kept_now u.first) → IsChecked u.number u.octets s p → P (pass_told p))
     → Chain May u w → ActsPassed P w.acts
 unfolding put put_link
 chain_passed P begin checked_so nothing = begin
@@ -138,7 +135,7 @@ something_passes context octets o small e =
     (are.0, (passed_where_passing context Up octets small o.count are.0 o.message).1 are.1)
 
 -- what was checked passes
-in_use_passes : (a : AmfState) (number : ℕ) (octets : List ℕ) (s : Subscriber) (p : Passage) → get_or octets 6 0 < 256
+in_use_passes : (a : AmfState) (number : ℕ) (octets : List ℕ) (s : Record) (p : Passage) → get_or octets 6 0 < 256
     → IsAmong s a.subscribers → checked_in_use number octets s ≡ Some p → WasChecked a number octets (pass_told p)
 unfolding checked_in_use
 in_use_passes a number octets s p small among =
@@ -162,7 +159,7 @@ in_use_passes a number octets s p small among =
       passes = are.1;
     })))
 
-pending_passes : (a : AmfState) (number : ℕ) (octets : List ℕ) (s : Subscriber) (p : Passage) → get_or octets 6 0 < 256
+pending_passes : (a : AmfState) (number : ℕ) (octets : List ℕ) (s : Record) (p : Passage) → get_or octets 6 0 < 256
     → IsAmong s a.subscribers → checked_pending number octets s ≡ Some p → WasChecked a number octets (pass_told p)
 unfolding checked_pending
 pending_passes a number octets s p small among =
@@ -186,7 +183,7 @@ pending_passes a number octets s p small among =
       passes = are.1;
     })))
 
-checked_passes : (a : AmfState) (number : ℕ) (octets : List ℕ) (s : Subscriber) (p : Passage) → get_or octets 6 0 < 256
+checked_passes : (a : AmfState) (number : ℕ) (octets : List ℕ) (s : Record) (p : Passage) → get_or octets 6 0 < 256
     → IsAmong s a.subscribers → IsChecked number octets s p → WasChecked a number octets (pass_told p)
 checked_passes a number octets s p small among (inl e) = in_use_passes a number octets s p small among e
 checked_passes a number octets s p small among (inr e) = pending_passes a number octets s p small among e
@@ -194,21 +191,17 @@ checked_passes a number octets s p small among (inr e) = pending_passes a number
 -- where octets come up, nothing of a subscriber has changed yet, and nothing was told
 pub record IsAtStart (a : AmfState) (w : Work) : Type 0 where
   pub acts : w.acts ≡ []
-  pub changes : w.amf.changes.subscribers ≡ []
-  pub before : w.amf.before.amf ≡ a
+  pub kept : kept_now w ≡ a.subscribers
 
 pub freshened_at_start : (a : AmfState) (home : List HomeRecord) (now : ℕ) (rand : List ℕ) (fresh : Bool) (number : ℕ)
     → IsAtStart a (freshened fresh number (started a home now rand))
 unfolding freshened put_link
 freshened_at_start a home now rand fresh number =
-    when_holds (λ (x : Work). IsAtStart a x) fresh _ _ (λ _. record { acts = refl; changes = refl; before = refl })
-    (λ _. record { acts = refl; changes = refl; before = refl })
-
-pub kept_at_start : (a : AmfState) (w : Work) → IsAtStart a w → kept_now w ≡ a.subscribers
-kept_at_start a w h = rw (h.changes, h.before) (unchanged_stay is_same_subscriber a.subscribers)
+    when_holds (λ (x : Work). IsAtStart a x) fresh _ _ (λ _. record { acts = refl; kept = refl })
+    (λ _. record { acts = refl; kept = refl })
 
 opened_at_end : (a : AmfState) (home : List HomeRecord) (number : ℕ) (octets : List ℕ) (w : Work) → get_or octets 6 0 < 256
-    → IsAtStart a w → AllPassed (WasChecked a number octets) (ended a home (received number octets w)).outs
+    → IsAtStart a w → AllPassed (WasChecked a number octets) (ended (received number octets w)).outs
 unfolding ended
 opened_at_end a home number octets w small h =
     let u : Received = record { number = number; octets = octets; first = w } in
@@ -216,7 +209,7 @@ opened_at_end a home number octets w small h =
     acts_pass (WasChecked a number octets) (received number octets w).acts (record { amf = (received number octets w).amf; outs = [] }) tt
     (chain_passed (WasChecked a number octets) (subst (λ (y : List Act). ActsPassed (WasChecked a number octets) y) (sym h.acts) tt)
     (λ s p among checked.
-    checked_passes a number octets s p small (subst (λ (y : List Subscriber). IsAmong s y) (kept_at_start a w h) among) checked) chain)
+    checked_passes a number octets s p small (subst (λ (y : List Record). IsAmong s y) h.kept among) checked) chain)
 
 pub opened_where_passing : (a : AmfState) (home : List HomeRecord) (now : ℕ) (rand : List ℕ) (number : ℕ) (fresh : Bool) (octets : List ℕ)
     → get_or octets 6 0 < 256 → OpensWherePassing a number octets (Uplinks a home now rand number fresh octets)

@@ -6,23 +6,21 @@ use Rattle.milenage.specs.Home.{HomeRecord}
 use Rattle.amf_core.specs.Commands.{authenticate, authenticated, deregister, left}
 use Rattle.amf_core.specs.Delivery.{freshened}
 use Rattle.amf_core.specs.Events.{carried_down, dropped, expired, fenced, fenced_of, link_lost_of, lost_for, of_supi, sessions_told, sessions_told_of}
-use Rattle.amf_core.specs.Framing.{framed, framed_all}
+use Rattle.amf_core.specs.Framing.{Framed, framed, framed_all}
 use Rattle.amf_core.specs.State.{AmfState, has_supi, is_same_link, link_in, unused}
 use Rattle.amf_core.specs.Step.{started, worked}
 use Rattle.amf_core.specs.Transport.{brought_down}
-use Rattle.amf_core.specs.Work.{link_of, put_link, subscriber}
+use Rattle.amf_core.specs.Work.{Work, link_of, put_link, subscriber}
 use Rattle.amf_core.specs.declared.acts.Act.{Act}
 use Rattle.amf_core.specs.declared.acts.Act.TheVariants.{Say, Tell}
 use Rattle.amf_core.specs.declared.acts.Protection.{Protection}
-use Rattle.amf_core.specs.declared.framing.Framed.{Framed}
 use Rattle.amf_core.specs.declared.inputs.AmfInput.{AmfInput}
 use Rattle.amf_core.specs.declared.inputs.AmfInput.TheVariants.{Uplink, Expired, Authenticate, Deregister, Fence, Sessions, Down, Dropped}
 use Rattle.amf_core.specs.declared.inputs.AmfRefusal.{AmfRefusal}
 use Rattle.amf_core.specs.declared.link.Link.{Link}
-use Rattle.amf_core.specs.declared.subscriber.Subscriber.{Subscriber}
-use Rattle.amf_core.specs.declared.work.Work.{Work}
+use Rattle.amf_core.specs.declared.subscriber.Record.{Record}
 use Rattle.amf_laws.proofs.AnswerRows.{brought_down_moves}
-use Rattle.amf_laws.proofs.Branching.{per_holds}
+use Rattle.nas_base.proofs.Branching.{per_holds}
 use Rattle.amf_laws.proofs.Chains.{Chain, Received, kept_now}
 use Rattle.amf_laws.proofs.DeliveryRows.{MayReceive, received_chain}
 use Rattle.amf_laws.proofs.EventRows.{SettledBy, authenticated_settles, expired_settles, fenced_settles, left_settles, lost_settles, sessions_settle}
@@ -31,12 +29,12 @@ use Rattle.amf_laws.proofs.FramedFit.Sends.{unsent, goes, counts}
 use Rattle.amf_laws.proofs.Moves.{Beginning, Settled, begins, settled}
 use Rattle.amf_laws.proofs.Moves.Moves.{here}
 use Rattle.amf_laws.proofs.PassedLaws.{IsAtStart, freshened_at_start}
-use Rattle.amf_laws.proofs.Records.{found_among, found_has, unchanged_stay}
+use Rattle.amf_laws.proofs.Records.{found_among, found_has}
 use Rattle.amf_laws.specs.Passing.{IsAmong}
 use Rattle.amf_laws.specs.Timers.{running_in, with_timer}
 
 -- a row begins with this subscriber, where nothing of one has changed yet
-pub record IsOne (May : List ℕ → Type 0) (a : AmfState) (s : Subscriber) (b : Beginning) : Type 0 where
+pub record IsOne (May : List ℕ → Type 0) (a : AmfState) (s : Record) (b : Beginning) : Type 0 where
   pub at_start : IsAtStart a b.first
   pub supi : b.supi ≡ s.supi
   pub kept : b.kept ≡ s.kept
@@ -46,7 +44,7 @@ pub record IsOne (May : List ℕ → Type 0) (a : AmfState) (s : Subscriber) (b 
 -- the rows that octets come to, the row of one subscriber, or none
 pub data Comes (May : List ℕ → Type 0) (a : AmfState) : Work → Type 0 where
   chains : {w : Work} (u : Received) → IsAtStart a u.first → Chain May u w → Comes May a w
-  settles : {w : Work} (b : Beginning) (s : Subscriber) → IsOne May a s b → Settled May b w → Comes May a w
+  settles : {w : Work} (b : Beginning) (s : Record) → IsOne May a s b → Settled May b w → Comes May a w
   stays : {w : Work} → IsAtStart a w → Comes May a w
 
 abbrev pub ComesBy : (List ℕ → Type 0) → AmfState → Result Work AmfRefusal → Type 0
@@ -66,7 +64,7 @@ MayHave May a home now rand (Sessions supi status) = May supi
 MayHave May a home now rand (Down supi psi frame) = May supi
 
 -- the row of the subscriber of a SUPI
-one_of : (May : List ℕ → Type 0) (a : AmfState) (supi : List ℕ) (w : Work) (s : Subscriber) → IsAtStart a w → May supi
+one_of : (May : List ℕ → Type 0) (a : AmfState) (supi : List ℕ) (w : Work) (s : Record) → IsAtStart a w → May supi
     → subscriber supi w ≡ Some s → IsOne May a s (begins s w)
 one_of May a supi w s at_start may e = record {
   at_start = at_start;
@@ -76,22 +74,22 @@ one_of May a supi w s at_start may e = record {
   may = subst May (sym (found_has supi (kept_now w) s e)) may;
 }
 
-of_supi_comes : (May : List ℕ → Type 0) (a : AmfState) (supi : List ℕ) (row : Subscriber → Work → Work) (w : Work)
-    → IsAtStart a w → May supi → ((s : Subscriber) → May s.supi → Settled May (begins s w) (row s w)) → Comes May a (of_supi supi row w)
+of_supi_comes : (May : List ℕ → Type 0) (a : AmfState) (supi : List ℕ) (row : Record → Work → Work) (w : Work)
+    → IsAtStart a w → May supi → ((s : Record) → May s.supi → Settled May (begins s w) (row s w)) → Comes May a (of_supi supi row w)
 of_supi_comes May a supi row w at_start may done =
     per_holds (λ (y : Work). Comes May a y) (subscriber supi w) w _ (λ _. stays at_start)
     (λ s e.
     let one : IsOne May a s (begins s w) = one_of May a supi w s at_start may e in
     settles (begins s w) s one (done s one.may))
 
-comes_by : (May : List ℕ → Type 0) (a : AmfState) (b : Beginning) (s : Subscriber) (done : Result Work AmfRefusal) → IsOne May a s b
+comes_by : (May : List ℕ → Type 0) (a : AmfState) (b : Beginning) (s : Record) (done : Result Work AmfRefusal) → IsOne May a s b
     → SettledBy May b done → ComesBy May a done
 comes_by May a b s (Ok w) one done = settles b s one done
 comes_by May a b s (Err refusal) one done = tt
 
-of_supi_comes_by : (May : List ℕ → Type 0) (a : AmfState) (supi : List ℕ) (row : Subscriber → Work → Result Work AmfRefusal)
-    (refusal : AmfRefusal) (w : Work) → IsAtStart a w → May supi → ((s : Subscriber) → May s.supi → SettledBy May (begins s w) (row s w))
-    → ComesBy May a (per (subscriber supi w) (Err refusal) (λ (s : Subscriber). row s w))
+of_supi_comes_by : (May : List ℕ → Type 0) (a : AmfState) (supi : List ℕ) (row : Record → Work → Result Work AmfRefusal)
+    (refusal : AmfRefusal) (w : Work) → IsAtStart a w → May supi → ((s : Record) → May s.supi → SettledBy May (begins s w) (row s w))
+    → ComesBy May a (per (subscriber supi w) (Err refusal) (λ (s : Record). row s w))
 of_supi_comes_by May a supi row refusal w at_start may done =
     per_holds (λ (y : Result Work AmfRefusal). ComesBy May a y) (subscriber supi w) (Err refusal) _ (λ _. tt)
     (λ s e.
@@ -112,7 +110,7 @@ expired_comes May a supi id w at_start may =
 
 unused_at_start : (a : AmfState) (number : ℕ) (w : Work) → IsAtStart a w → IsAtStart a (put_link (unused number) w)
 unfolding put_link
-unused_at_start a number w h = record { acts = h.acts; changes = h.changes; before = h.before }
+unused_at_start a number w h = record { acts = h.acts; kept = h.kept }
 
 lost_comes : (May : List ℕ → Type 0) (a : AmfState) (supi : Option (List ℕ)) (number : ℕ) (w : Work) → IsAtStart a w
     → ((x : List ℕ) → supi ≡ Some x → May x) → Comes May a (lost_for supi number w)
@@ -121,7 +119,7 @@ lost_comes May a supi number w at_start may =
     (λ x e. of_supi_comes May a x (link_lost_of number) w at_start (may x e) (λ s m. lost_settles number s (refl, λ few. few, m) here))
 
 at_first : (a : AmfState) (home : List HomeRecord) (now : ℕ) (rand : List ℕ) → IsAtStart a (started a home now rand)
-at_first a home now rand = record { acts = refl; changes = refl; before = refl }
+at_first a home now rand = record { acts = refl; kept = refl }
 
 -- the row of each input
 pub input_comes : (May : List ℕ → Type 0) (a : AmfState) (home : List HomeRecord) (now : ℕ) (rand : List ℕ) (input : AmfInput)
@@ -151,19 +149,4 @@ input_comes May a home now rand (Down supi psi frame) may =
 input_comes May a home now rand (Dropped number) may =
     lost_comes May a (link_of number (started a home now rand)).supi number (put_link (unused number) (started a home now rand))
     (unused_at_start a number (started a home now rand) (at_first a home now rand))
-    (λ x e. may x (sym (ap (λ (y : List Link). (link_in number y).supi) (unchanged_stay is_same_link a.links)) ∙ e))
-
--- what was kept before stays when messages go out
-sends_before : {protection : Protection} {f g : Framed} → Sends protection f g → g.amf.before ≡ f.amf.before
-sends_before unsent = refl
-sends_before (goes number octets pass s) = sends_before s
-sends_before (counts old new of is found s) = sends_before s
-
-framed_before : (act : Act) (f : Framed) → (framed act f).amf.before ≡ f.amf.before
-unfolding framed
-framed_before (Tell out) f = refl
-framed_before (Say number protection message) f = sends_before (says_send number protection message)
-
-pub all_before : (acts : List Act) (f : Framed) → (framed_all acts f).amf.before ≡ f.amf.before
-all_before [] f = refl
-all_before (act ∷ acts) f = all_before acts (framed act f) ∙ framed_before act f
+    may

@@ -1,4 +1,5 @@
 pub mod Kept
+pub mod Lengths
 pub mod Others
 pub mod Passing
 pub mod Timers

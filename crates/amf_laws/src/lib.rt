@@ -2,14 +2,16 @@
 #![tactic(auto)]
 
 mod kept;
+mod lengths;
 mod others;
 mod passing;
 mod timers;
 
-pub use crate::kept::kept_lists_have_two_at_most;
+pub use crate::kept::{kept_lists_have_two_at_most, same_subscribers_are_kept};
+pub use crate::lengths::messages_have_4096_octets_at_most;
 pub use crate::others::other_subscribers_stay;
 pub use crate::passing::{
-    failed_service_request_changes_nothing, fresh_uplink_clears_the_mark, opened_where_passing,
-    unchecked_octets_on_a_secure_link_do_nothing,
+    Arrival, failed_service_request_changes_nothing, fresh_uplink_clears_the_mark,
+    opened_where_passing, unchecked_octets_on_a_secure_link_do_nothing,
 };
 pub use crate::timers::{subscribers_stay_distinct, timers_fit_procedures};

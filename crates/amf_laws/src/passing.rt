@@ -6,6 +6,13 @@ use amf_core::Amf;
 use milenage::Home;
 use nas_base::Moment;
 
+/// How octets arrive: on which link, and whether they are the first of a connection.
+#[derive(Clone, Copy)]
+pub struct Arrival {
+    pub link: u16,
+    pub fresh: bool,
+}
+
 /// A message that an AMF takes as passed, passes (`nas_security`): each pass that a step tells is of a subscriber that was kept, whose
 /// context in use, or the one that was commanded on this link, has the challenge that is told, and under that the octets are the frame
 /// of a message at the count that is told (TS 24.501 clause 4.4.4.3).
@@ -14,11 +21,10 @@ pub fn opened_where_passing(
     home: &Home,
     now: Moment,
     rand: &[u8; 16],
-    link: u16,
-    fresh: bool,
+    arrival: Arrival,
     octets: &[u8],
 )
-    ensures { OpensWherePassing amf.now link octets.now (Uplinks amf.now home.now now rand.now link fresh octets.now) }
+    ensures { OpensWherePassing amf.now arrival.link octets.now (Uplinks amf.now home.now now rand.now arrival.link arrival.fresh octets.now) }
 {}
 
 /// The first message of a connection leaves its link not secure, whatever its octets are, unless they passed a check in this very step
@@ -54,9 +60,8 @@ pub fn failed_service_request_changes_nothing(
     home: &Home,
     now: Moment,
     rand: &[u8; 16],
-    link: u16,
-    fresh: bool,
+    arrival: Arrival,
     octets: &[u8],
 )
-    ensures { FailedRequestsRejected amf.now home.now now rand.now link fresh octets.now }
+    ensures { FailedRequestsRejected amf.now home.now now rand.now arrival.link arrival.fresh octets.now }
 {}

@@ -7,3 +7,4 @@ pub mod Growing
 mod Owners
 mod Running
 mod Supis
+mod TakingOver

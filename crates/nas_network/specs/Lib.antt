@@ -2,5 +2,6 @@ pub mod Config
 pub mod Network
 pub mod Owners
 pub mod State
+pub mod TakingOver
 pub mod Ticks
 pub mod Turns

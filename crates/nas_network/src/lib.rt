@@ -6,17 +6,13 @@ mod beginning;
 mod command;
 mod config;
 mod network;
-mod parts;
-#[cfg(test)]
-mod test_network;
-#[cfg(test)]
-mod tests;
 mod ticks;
 mod timers;
 mod turn;
 
 pub use crate::command::{NetCommand, NetDelivery, NetRefusal};
 pub use crate::config::{
-    Dnns, NetConfig, Subscriber, Subscribers, is_for_5g, is_pool_size, is_subscriber, pool_fits,
+    NetConfig, Subscriber, Subscribers, is_for_5g, is_pool_size, is_subscriber, pool_fits,
 };
 pub use crate::network::Network;
+pub use crate::turn::NetTurn;

@@ -1,10 +1,10 @@
 //! Lines and their answers.
 
-use crate::words::Refusal;
 use crate::{
-    aes_calls, element_calls, frame_calls, handset_calls, key_calls, message_calls, milenage_calls,
-    mobility_calls, network_calls, qos_calls, run_calls, timer_calls, walk_calls,
+    aes_calls, element_calls, frame_calls, key_calls, message_calls, milenage_calls, qos_calls,
+    timer_calls, walk_calls,
 };
+use probe_words::{Refusal, answered, words_of};
 use std::alloc::{AllocError, Global};
 
 /// The answer to a line.
@@ -13,63 +13,54 @@ use std::alloc::{AllocError, Global};
 ///
 /// Where memory is wanting.
 pub fn answer(alloc: Global, line: &[u8]) -> Result<String, AllocError> {
-    match called(alloc, line) {
-        Ok(text) => Ok(text),
-        Err(Refusal::Unreadable) => String::from_str(alloc, "?"),
-        Err(Refusal::Memory) => Err(AllocError),
+    match words_of(alloc, line) {
+        Ok(words) => answered(alloc, called(alloc, words.as_slice())),
+        Err(refusal) => answered(alloc, Err(refusal)),
     }
 }
 
 // The call of a line, carried out.
-fn called(alloc: Global, line: &[u8]) -> Result<String, Refusal> {
-    let Ok(text) = str::from_utf8(line) else {
-        return Err(Refusal::Unreadable);
-    };
-    let Ok(words) = text.split(' ').collect::<Vec<&str>>(alloc) else {
-        return Err(Refusal::Memory);
-    };
-    let words = words.as_slice();
-    match aes_calls::answer(alloc, words) {
-        Err(Refusal::Unreadable) => (),
-        answer => return answer,
+fn called(alloc: Global, words: &[&str]) -> Result<String, Refusal> {
+    match value_call(alloc, words) {
+        Err(Refusal::Unreadable) => whole_call(alloc, words),
+        answer => answer,
     }
+}
+
+fn whole_call(alloc: Global, words: &[&str]) -> Result<String, Refusal> {
+    match message_call(alloc, words) {
+        Err(Refusal::Unreadable) => key_call(alloc, words),
+        answer => answer,
+    }
+}
+
+// Of elements, timers and the walk.
+fn value_call(alloc: Global, words: &[&str]) -> Result<String, Refusal> {
     match walk_calls::answer(alloc, words) {
         Err(Refusal::Unreadable) => (),
         answer => return answer,
     }
     match timer_calls::answer(alloc, words) {
-        Err(Refusal::Unreadable) => (),
-        answer => return answer,
+        Err(Refusal::Unreadable) => element_calls::answer(alloc, words),
+        answer => answer,
     }
-    match element_calls::answer(alloc, words) {
-        Err(Refusal::Unreadable) => (),
-        answer => return answer,
-    }
+}
+
+// Of messages, QoS rules and frames.
+fn message_call(alloc: Global, words: &[&str]) -> Result<String, Refusal> {
     match message_calls::answer(alloc, words) {
         Err(Refusal::Unreadable) => (),
         answer => return answer,
     }
     match qos_calls::answer(alloc, words) {
-        Err(Refusal::Unreadable) => (),
-        answer => return answer,
+        Err(Refusal::Unreadable) => frame_calls::answer(alloc, words),
+        answer => answer,
     }
-    match frame_calls::answer(alloc, words) {
-        Err(Refusal::Unreadable) => (),
-        answer => return answer,
-    }
-    match handset_calls::answer(alloc, words) {
-        Err(Refusal::Unreadable) => (),
-        answer => return answer,
-    }
-    match mobility_calls::answer(alloc, words) {
-        Err(Refusal::Unreadable) => (),
-        answer => return answer,
-    }
-    match run_calls::answer(alloc, words) {
-        Err(Refusal::Unreadable) => (),
-        answer => return answer,
-    }
-    match network_calls::answer(alloc, words) {
+}
+
+// Of ciphers and keys.
+fn key_call(alloc: Global, words: &[&str]) -> Result<String, Refusal> {
+    match aes_calls::answer(alloc, words) {
         Err(Refusal::Unreadable) => (),
         answer => return answer,
     }

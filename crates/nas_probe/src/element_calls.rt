@@ -19,13 +19,16 @@
 //! The answer is the octets that the value is written as, or `wrong` with the place as a decimal number where there is no value,
 //! or `full` where it has more octets than a writer has room for.
 
-use crate::words::{Refusal, octets, text};
 use nas_base::{Full, Writer};
 use nas_elements::{
     Address, Algs, Ambr, Asi, Capability, Dnn, Guti, Identity, IdentityRefusal, Nssai, Slice,
     Status, Stmsi, Suci, TaiList, Timer3, Wrong,
 };
+use probe_words::{Refusal, octets, word, written};
 use std::alloc::Global;
+
+// What came of reading a value, and of writing it.
+type Told = Result<Result<(), Full>, Wrong>;
 
 /// The answer to a call.
 pub fn answer(alloc: Global, words: &[&str]) -> Result<String, Refusal> {
@@ -34,59 +37,70 @@ pub fn answer(alloc: Global, words: &[&str]) -> Result<String, Refusal> {
     };
     let given = octets(alloc, input)?;
     let mut out = Writer::new();
-    let written = written(alloc, call, &given, &mut out)?;
-    told(alloc, written, &out)
+    match rewritten(alloc, call, &given, &mut out)? {
+        Ok(full) => written(alloc, full, &out),
+        Err(Wrong { at }) => word(format!(in alloc; "wrong {at}")),
+    }
 }
 
 // Reads the octets as the call has them, and writes the value.
-fn written(
-    alloc: Global,
-    call: &str,
-    given: &[u8],
-    out: &mut Writer,
-) -> Result<Result<Result<(), Full>, Wrong>, Refusal> {
-    Ok(match call {
-        "read_address" => Address::read(given).map(|value| value.write(out)),
-        "read_algs" => Algs::read(given).map(|value| value.write(out)),
-        "read_ambr" => Ambr::read(given).map(|value| value.write(out)),
-        "read_asi" => Asi::read(given).map(|value| value.write(out)),
-        "read_capability" => Capability::read(given).map(|value| value.write(out)),
-        "read_dnn" => Dnn::read(given).map(|value| value.write(out)),
-        "read_guti" => Guti::read(given).map(|value| value.write(out)),
-        "read_identity" => identity(alloc, given)?.map(|value| value.write(out)),
-        "read_nssai" => Nssai::read(given).map(|value| value.write(out)),
-        "read_slice" => Slice::read(given).map(|value| value.write(out)),
-        "read_status" => Status::read(given).map(|value| value.write(out)),
-        "read_stmsi" => Stmsi::read(given).map(|value| value.write(out)),
-        "read_suci" => Suci::read(given).map(|value| value.write(out)),
-        "read_tai_list" => TaiList::read(given).map(|value| value.write(out)),
-        "read_timer3" => Timer3::read(given).map(|value| value.write(out)),
-        _ => return Err(Refusal::Unreadable),
-    })
+fn rewritten(alloc: Global, call: &str, given: &[u8], out: &mut Writer) -> Result<Told, Refusal> {
+    if call == "read_identity" {
+        return identity(alloc, given, out);
+    }
+    match named_value(call, given, out) {
+        Some(told) => Ok(told),
+        None => session_value(call, given, out).ok_or(Refusal::Unreadable),
+    }
 }
 
-// An identity, or the place where the octets are wrong.
-fn identity(alloc: Global, given: &[u8]) -> Result<Result<Identity, Wrong>, Refusal> {
+// An identity of any kind.
+fn identity(alloc: Global, given: &[u8], out: &mut Writer) -> Result<Told, Refusal> {
     match Identity::read(alloc, given) {
-        Ok(value) => Ok(Ok(value)),
+        Ok(value) => Ok(Ok(value.write(out))),
         Err(IdentityRefusal::Wrong { at }) => Ok(Err(Wrong { at })),
         Err(IdentityRefusal::Memory) => Err(Refusal::Memory),
     }
 }
 
-// What came of a call, as words.
-fn told(
-    alloc: Global,
-    written: Result<Result<(), Full>, Wrong>,
-    out: &Writer,
-) -> Result<String, Refusal> {
-    let line = match written {
-        Ok(Ok(())) => return text(alloc, out.octets()),
-        Ok(Err(_)) => String::from_str(alloc, "full"),
-        Err(wrong) => {
-            let at = wrong.at;
-            format!(in alloc; "wrong {at}")
-        }
-    };
-    line.map_err(|_| Refusal::Memory)
+fn named_value(call: &str, given: &[u8], out: &mut Writer) -> Option<Told> {
+    match place_value(call, given, out) {
+        Some(told) => Some(told),
+        None => mobility_value(call, given, out),
+    }
+}
+
+// Who and where a handset is.
+fn place_value(call: &str, given: &[u8], out: &mut Writer) -> Option<Told> {
+    match call {
+        "read_guti" => Some(Guti::read(given).map(|value| value.write(out))),
+        "read_stmsi" => Some(Stmsi::read(given).map(|value| value.write(out))),
+        "read_suci" => Some(Suci::read(given).map(|value| value.write(out))),
+        "read_tai_list" => Some(TaiList::read(given).map(|value| value.write(out))),
+        _ => None,
+    }
+}
+
+// What else 5GMM messages have.
+fn mobility_value(call: &str, given: &[u8], out: &mut Writer) -> Option<Told> {
+    match call {
+        "read_algs" => Some(Algs::read(given).map(|value| value.write(out))),
+        "read_asi" => Some(Asi::read(given).map(|value| value.write(out))),
+        "read_capability" => Some(Capability::read(given).map(|value| value.write(out))),
+        "read_status" => Some(Status::read(given).map(|value| value.write(out))),
+        "read_timer3" => Some(Timer3::read(given).map(|value| value.write(out))),
+        _ => None,
+    }
+}
+
+// What a session has.
+fn session_value(call: &str, given: &[u8], out: &mut Writer) -> Option<Told> {
+    match call {
+        "read_address" => Some(Address::read(given).map(|value| value.write(out))),
+        "read_ambr" => Some(Ambr::read(given).map(|value| value.write(out))),
+        "read_dnn" => Some(Dnn::read(given).map(|value| value.write(out))),
+        "read_nssai" => Some(Nssai::read(given).map(|value| value.write(out))),
+        "read_slice" => Some(Slice::read(given).map(|value| value.write(out))),
+        _ => None,
+    }
 }

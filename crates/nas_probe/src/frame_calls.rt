@@ -10,14 +10,15 @@
 //! `unprotect` it is `plain`, `malformed AT`, `spent`, `failed WANT GOT` or `passed COUNT HEADER PLAIN`. The last two do it TIMES
 //! times to a message of LENGTH octets (at most 4089) under 128-NEA2, and answer a sum of what came out, for a clock outside.
 
-ghost use Rattle.std.specs.Prelude.{◌≡◌, ◌⊎◌, ◌≤◌, ◌^◌};
+ghost use Rattle.std.specs.Prelude.{◌≡◌, ◌⊎◌, ◌≤◌, ◌^◌, IfOk};
 
-use crate::words::{Refusal, direction, exactly, octets, quantity, text};
+use crate::frame_times;
 use key_chain::nas_keys;
 use nas_base::{Dir, Ksi, Writer};
 use nas_elements::Algs;
 use nas_security::{Challenge, Context, Verdict, protect, unprotect};
-use std::alloc::{AllocError, Global};
+use probe_words::{Refusal, direction, exactly, literal, octets, quantity, sum_text, text, word};
+use std::alloc::Global;
 
 // The longest message of a frame, and how many counts there are.
 const LONGEST: usize = 4089;
@@ -28,47 +29,56 @@ const COUNTS: u32 = 0x0100_0000;
 pub fn answer(alloc: Global, words: &[&str]) -> Result<String, Refusal> {
     match words {
         ["protect", kamf, nea, next, dir, header, plain] => {
-            let mut context = context(kamf, nea, next)?;
-            let plain = octets(alloc, plain)?;
-            protected(
-                alloc,
-                &mut context,
-                direction(dir)?,
-                quantity(header)?,
-                &plain,
-            )
+            let context = context(kamf, nea, next)?;
+            protected(alloc, context, direction(dir)?, quantity(header)?, plain)
         }
         ["unprotect", kamf, nea, next, dir, frame] => {
             let context = context(kamf, nea, next)?;
-            judged(alloc, &context, direction(dir)?, &octets(alloc, frame)?)
+            judged(alloc, &context, direction(dir)?, frame)
         }
-        ["time_protect", length, times] => sum_text(
-            alloc,
-            protect_often(quantity(length)?, quantity(times)?)?,
-        ),
-        ["time_unprotect", length, times] => {
-            sum_text(alloc, unprotect_often(quantity(length)?, quantity(times)?)?)
-        }
+        [call, length, times] => timed(alloc, call, quantity(length)?, quantity(times)?),
+        _ => Err(Refusal::Unreadable),
+    }
+}
+
+fn timed(alloc: Global, call: &str, length: u32, times: u32) -> Result<String, Refusal> {
+    match call {
+        "time_protect" => sum_text(alloc, frame_times::protect_often(length, times)?),
+        "time_unprotect" => sum_text(alloc, frame_times::unprotect_often(length, times)?),
         _ => Err(Refusal::Unreadable),
     }
 }
 
 // The context of these keys, with the same next count up and down.
 fn context(kamf: &str, nea: &str, next: &str) -> Result<Context, Refusal> {
-    let kamf = exactly::<32>(kamf)?;
-    let nea = match nea {
-        "0" => 0,
-        "2" => 2,
-        _ => return Err(Refusal::Unreadable),
-    };
-    let next = quantity(next)?;
-    if next > COUNTS {
-        return Err(Refusal::Unreadable);
-    }
+    let kamf = exactly(kamf)?;
+    let nea = ciphering(nea)?;
+    let next = next_count(next)?;
     Ok(context_of(&kamf, nea, next))
 }
 
-fn context_of(kamf: &[u8; 32], nea: u8, next: u32) -> Context
+fn ciphering(word: &str) -> Result<u8, Refusal>
+    ensures { IfOk result (λ nea. (nea ≡ 0) ⊎ (nea ≡ 2)) }
+{
+    match word {
+        "0" => Ok(0),
+        "2" => Ok(2),
+        _ => Err(Refusal::Unreadable),
+    }
+}
+
+fn next_count(word: &str) -> Result<u32, Refusal>
+    ensures { IfOk result (λ next. next ≤ 2 ^ 24) }
+{
+    let next = quantity(word)?;
+    if next > COUNTS {
+        return Err(Refusal::Unreadable);
+    }
+    Ok(next)
+}
+
+/// The context of this KAMF and ciphering algorithm, with the same next count up and down.
+pub fn context_of(kamf: &[u8; 32], nea: u8, next: u32) -> Context
     requires algorithm { (nea ≡ 0) ⊎ (nea ≡ 2) }
     requires count { next ≤ 2 ^ 24 }
 {
@@ -88,95 +98,46 @@ fn context_of(kamf: &[u8; 32], nea: u8, next: u32) -> Context
 
 fn protected(
     alloc: Global,
-    context: &mut Context,
+    mut context: Context,
     dir: Dir,
     header: u32,
-    plain: &[u8],
+    plain: &str,
 ) -> Result<String, Refusal> {
+    let plain = octets(alloc, plain)?;
     if header < 1 || header > 4 || plain.len() > LONGEST {
         return Err(Refusal::Unreadable);
     }
     let mut out = Writer::new();
-    match protect(context, dir, header as u8, plain, &mut out) {
+    match protect(&mut context, dir, header as u8, &plain, &mut out) {
         Ok(_) => text(alloc, out.octets()),
-        Err(_) => word(String::from_str(alloc, "spent")),
+        Err(_) => literal(alloc, "spent"),
     }
 }
 
-fn judged(alloc: Global, context: &Context, dir: Dir, frame: &[u8]) -> Result<String, Refusal> {
+fn judged(alloc: Global, context: &Context, dir: Dir, frame: &str) -> Result<String, Refusal> {
+    let frame = octets(alloc, frame)?;
     let mut out = Writer::new();
-    match unprotect(context, dir, frame, &mut out) {
-        Verdict::Plain => word(String::from_str(alloc, "plain")),
+    let verdict = unprotect(context, dir, &frame, &mut out);
+    verdict_text(alloc, &verdict, out.octets())
+}
+
+fn verdict_text(alloc: Global, verdict: &Verdict, plain: &[u8]) -> Result<String, Refusal> {
+    match verdict {
+        Verdict::Plain => literal(alloc, "plain"),
         Verdict::Malformed { at } => word(format!(in alloc; "malformed {at}")),
-        Verdict::Spent { next: _ } => word(String::from_str(alloc, "spent")),
-        Verdict::Failed { want, got } => {
-            let want = text(alloc, &want)?;
-            let got = text(alloc, &got)?;
-            word(format!(in alloc; "failed {want} {got}"))
-        }
-        Verdict::Passed { count, header } => {
-            let count = count.0;
-            let plain = text(alloc, out.octets())?;
-            word(format!(in alloc; "passed {count} {header} {plain}"))
-        }
+        Verdict::Spent { next: _ } => literal(alloc, "spent"),
+        Verdict::Failed { want, got } => failed_text(alloc, want, got),
+        Verdict::Passed { count, header } => passed_text(alloc, count.0, *header, plain),
     }
 }
 
-// Protects a message of so many octets so often.
-fn protect_often(length: u32, times: u32) -> Result<u64, Refusal> {
-    let room = [0x5a; LONGEST];
-    let Some(plain) = room.get(..length as usize) else {
-        return Err(Refusal::Unreadable);
-    };
-    let mut context = context_of(&[7; 32], 2, 0);
-    let mut sum = 0u64;
-    for _ in 0..times {
-        let mut out = Writer::new();
-        match protect(&mut context, Dir::Up, 2, plain, &mut out) {
-            Ok(_) => sum = sum.wrapping_add(sum_of(out.octets())),
-            Err(_) => context = context_of(&[7; 32], 2, 0),
-        }
-    }
-    Ok(sum)
+fn failed_text(alloc: Global, want: &[u8], got: &[u8]) -> Result<String, Refusal> {
+    let want = text(alloc, want)?;
+    let got = text(alloc, got)?;
+    word(format!(in alloc; "failed {want} {got}"))
 }
 
-// Checks and deciphers the frame of a message of so many octets so often.
-fn unprotect_often(length: u32, times: u32) -> Result<u64, Refusal> {
-    let room = [0x5a; LONGEST];
-    let Some(plain) = room.get(..length as usize) else {
-        return Err(Refusal::Unreadable);
-    };
-    let context = context_of(&[7; 32], 2, 0);
-    let mut sender = context_of(&[7; 32], 2, 0);
-    let mut frame = Writer::new();
-    let _ = protect(&mut sender, Dir::Up, 2, plain, &mut frame);
-    let mut sum = 0u64;
-    for _ in 0..times {
-        let mut out = Writer::new();
-        if let Verdict::Passed {
-            count: _,
-            header: _,
-        } = unprotect(&context, Dir::Up, frame.octets(), &mut out)
-        {
-            sum = sum.wrapping_add(sum_of(out.octets()));
-        }
-    }
-    Ok(sum)
-}
-
-/// The first and the last octet, so that nothing is left out.
-pub fn sum_of(octets: &[u8]) -> u64 {
-    match octets {
-        [first, .., last] => *first as u64 + *last as u64,
-        _ => 0,
-    }
-}
-
-/// A sum.
-pub fn sum_text(alloc: Global, sum: u64) -> Result<String, Refusal> {
-    word(format!(in alloc; "{sum}"))
-}
-
-fn word(line: Result<String, AllocError>) -> Result<String, Refusal> {
-    line.map_err(|_| Refusal::Memory)
+fn passed_text(alloc: Global, count: u32, header: u8, plain: &[u8]) -> Result<String, Refusal> {
+    let plain = text(alloc, plain)?;
+    word(format!(in alloc; "passed {count} {header} {plain}"))
 }

@@ -1,5 +1,6 @@
-//! A driver over the public calls of the libraries, for tests and benches. Each line of standard input is a call and its
-//! arguments, as in `cmac KEY OCTETS`, and gets one line of answer on standard output, or `?` where it can't be read.
+//! A driver over the public calls of the codecs, for tests and benches: of elements, messages, QoS rules, keys, frames and timers.
+//! Each line of standard input is a call and its arguments, as in `cmac KEY OCTETS`, and gets one line of answer on standard output,
+//! or `?` where it can't be read.
 //!
 //! Octets are written as hex digits, two for each, and none of them as `-`. Each library has a file of its calls, which lists
 //! them. The program makes no claim of its own: what a call answers is in the library's contracts.
@@ -9,29 +10,15 @@ mod aes_calls;
 mod answers;
 mod element_calls;
 mod frame_calls;
-mod handset_calls;
-mod handset_course;
-mod handset_inputs;
-mod handset_texts;
-mod handset_times;
+mod frame_times;
 mod key_calls;
 mod message_calls;
 mod milenage_calls;
-mod mobility_calls;
-mod mobility_course;
-mod mobility_inputs;
-mod mobility_texts;
-mod network_calls;
-mod network_config;
-mod network_course;
-mod network_inputs;
-mod network_texts;
-mod network_times;
 mod qos_calls;
-mod run_calls;
+mod qos_texts;
+mod session_calls;
 mod timer_calls;
 mod walk_calls;
-mod words;
 
 use std::io::{self, BufRead, BufReader, BufWriter, Write};
 

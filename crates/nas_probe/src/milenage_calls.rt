@@ -12,8 +12,8 @@
 //! of `make_vector` AUTN before these. That of `check_autn` is `accepted` with the number and these, `mac_failure`,
 //! `not_five_g`, or `synch_failure` with AUTS.
 
-use crate::words::{Refusal, exactly, number, text, texts};
 use milenage::{AutnAnswer, check_autn, f1, f1_star, f5_star, f2345, make_vector, opc_of};
+use probe_words::{Refusal, exactly, literal, number, text, texts, word};
 use std::alloc::Global;
 
 /// The answer to a call.
@@ -21,69 +21,115 @@ pub fn answer(alloc: Global, words: &[&str]) -> Result<String, Refusal> {
     match words {
         ["opc_of", k, op] => text(alloc, &opc_of(&exactly(k)?, &exactly(op)?)),
         [call, k, opc, rand, rest @ ..] => {
-            let keys = [exactly(k)?, exactly(opc)?, exactly(rand)?];
+            let keys = Keys {
+                k: exactly(k)?,
+                opc: exactly(opc)?,
+                rand: exactly(rand)?,
+            };
             called(alloc, call, &keys, rest)
         }
         _ => Err(Refusal::Unreadable),
     }
 }
 
-// The answer to a call with K, OPc and RAND.
-fn called(
-    alloc: Global,
-    call: &str,
-    [k, opc, rand]: &[[u8; 16]; 3],
-    rest: &[&str],
-) -> Result<String, Refusal> {
-    match (call, rest) {
-        ("f1", [sqn, field]) => text(alloc, &f1(k, opc, rand, &exactly(sqn)?, &exactly(field)?)),
-        ("f1_star", [sqn, field]) => {
-            text(
-                alloc,
-                &f1_star(k, opc, rand, &exactly(sqn)?, &exactly(field)?),
-            )
-        }
-        ("f2345", []) => {
-            let made = f2345(k, opc, rand);
-            texts(alloc, &[&made.res, &made.ck, &made.ik, &made.ak])
-        }
-        ("f5_star", []) => text(alloc, &f5_star(k, opc, rand)),
-        ("make_vector", [sqn, field]) => {
-            let made = make_vector(k, opc, rand, number(sqn)?, &exactly(field)?);
-            texts(
-                alloc,
-                &[&made.autn, &made.res, &made.ck, &made.ik, &made.ak],
-            )
-        }
-        ("check_autn", [autn, sqn_ms]) => {
-            told(
-                alloc,
-                &check_autn(k, opc, rand, &exactly(autn)?, number(sqn_ms)?),
-            )
-        }
+// K, OPc and RAND of a call.
+#[derive(Clone, Copy)]
+struct Keys {
+    k: [u8; 16],
+    opc: [u8; 16],
+    rand: [u8; 16],
+}
+
+// The answer to a call with these keys.
+fn called(alloc: Global, call: &str, keys: &Keys, rest: &[&str]) -> Result<String, Refusal> {
+    match rest {
+        [] => made_alone(alloc, call, keys),
+        [first, second] => made_with(alloc, call, keys, first, second),
         _ => Err(Refusal::Unreadable),
     }
 }
 
+fn made_alone(alloc: Global, call: &str, keys: &Keys) -> Result<String, Refusal> {
+    match call {
+        "f2345" => answer_keys(alloc, keys),
+        "f5_star" => text(alloc, &f5_star(&keys.k, &keys.opc, &keys.rand)),
+        _ => Err(Refusal::Unreadable),
+    }
+}
+
+fn made_with(
+    alloc: Global,
+    call: &str,
+    keys: &Keys,
+    first: &str,
+    second: &str,
+) -> Result<String, Refusal> {
+    match call {
+        "make_vector" => vector(alloc, keys, first, second),
+        "check_autn" => checked(alloc, keys, first, second),
+        _ => macs(alloc, call, keys, &exactly(first)?, &exactly(second)?),
+    }
+}
+
+// MAC-A or MAC-S.
+fn macs(
+    alloc: Global,
+    call: &str,
+    keys: &Keys,
+    sqn: &[u8; 6],
+    field: &[u8; 2],
+) -> Result<String, Refusal> {
+    match call {
+        "f1" => text(alloc, &f1(&keys.k, &keys.opc, &keys.rand, sqn, field)),
+        "f1_star" => text(alloc, &f1_star(&keys.k, &keys.opc, &keys.rand, sqn, field)),
+        _ => Err(Refusal::Unreadable),
+    }
+}
+
+fn answer_keys(alloc: Global, keys: &Keys) -> Result<String, Refusal> {
+    let made = f2345(&keys.k, &keys.opc, &keys.rand);
+    texts(alloc, &[&made.res, &made.ck, &made.ik, &made.ak])
+}
+
+fn vector(alloc: Global, keys: &Keys, sqn: &str, field: &str) -> Result<String, Refusal> {
+    let sqn = number(sqn)?;
+    let field = exactly(field)?;
+    let made = make_vector(&keys.k, &keys.opc, &keys.rand, sqn, &field);
+    texts(
+        alloc,
+        &[&made.autn, &made.res, &made.ck, &made.ik, &made.ak],
+    )
+}
+
+fn checked(alloc: Global, keys: &Keys, autn: &str, sqn_ms: &str) -> Result<String, Refusal> {
+    let autn = exactly(autn)?;
+    let sqn_ms = number(sqn_ms)?;
+    let answer = check_autn(&keys.k, &keys.opc, &keys.rand, &autn, sqn_ms);
+    told(alloc, &answer)
+}
+
 // The answer to AUTN, as words.
 fn told(alloc: Global, answer: &AutnAnswer) -> Result<String, Refusal> {
-    let line = match answer {
+    match answer {
         AutnAnswer::Accepted {
             sqn,
             res,
             ck,
             ik,
             ak,
-        } => {
-            let keys = texts(alloc, &[res, ck, ik, ak])?;
-            format!(in alloc; "accepted {sqn} {keys}")
-        }
-        AutnAnswer::MacFailure => String::from_str(alloc, "mac_failure"),
-        AutnAnswer::NotFiveG => String::from_str(alloc, "not_five_g"),
-        AutnAnswer::SynchFailure { auts } => {
-            let auts = text(alloc, auts)?;
-            format!(in alloc; "synch_failure {auts}")
-        }
-    };
-    line.map_err(|_| Refusal::Memory)
+        } => accepted_text(alloc, *sqn, &[res, ck, ik, ak]),
+        AutnAnswer::MacFailure => literal(alloc, "mac_failure"),
+        AutnAnswer::NotFiveG => literal(alloc, "not_five_g"),
+        AutnAnswer::SynchFailure { auts } => failure_text(alloc, auts),
+    }
+}
+
+fn accepted_text(alloc: Global, sqn: u64, keys: &[&[u8]]) -> Result<String, Refusal> {
+    let keys = texts(alloc, keys)?;
+    word(format!(in alloc; "accepted {sqn} {keys}"))
+}
+
+fn failure_text(alloc: Global, auts: &[u8]) -> Result<String, Refusal> {
+    let auts = text(alloc, auts)?;
+    word(format!(in alloc; "synch_failure {auts}"))
 }

@@ -6,9 +6,9 @@
 //! `deadline:TIMER` and `lasts:TIMER`, which ask for the standard durations. A timer is named as `T3510`, or with its PDU session as
 //! `T3580/15`. The answer has a word for each question: a timer's name or a number of milliseconds, or `none`.
 
-use crate::words::{Refusal, timer};
-use nas_base::Moment;
+use nas_base::{Moment, Psi};
 use nas_timers::{Durations, TimerId, Timers};
+use probe_words::{Refusal, literal, none, push, timer, word};
 use std::alloc::Global;
 
 /// The answer to a call.
@@ -22,13 +22,26 @@ pub fn answer(alloc: Global, words: &[&str]) -> Result<String, Refusal> {
         let Some((name, value)) = input.split_once(":") else {
             return Err(Refusal::Unreadable);
         };
-        match name {
-            "start" => start(&mut timers, value)?,
-            "stop" => timers.stop(timer(value)?),
-            _ => append(alloc, &mut line, asked(alloc, &timers, name, value)?)?,
-        }
+        carry_out(alloc, &mut timers, &mut line, name, value)?;
     }
     Ok(line)
+}
+
+fn carry_out(
+    alloc: Global,
+    timers: &mut Timers,
+    line: &mut String,
+    name: &str,
+    value: &str,
+) -> Result<(), Refusal> {
+    match name {
+        "start" => start(timers, value),
+        "stop" => {
+            timers.stop(timer(value)?);
+            Ok(())
+        }
+        _ => append(line, asked(alloc, timers, name, value)?),
+    }
 }
 
 fn start(timers: &mut Timers, value: &str) -> Result<(), Refusal> {
@@ -42,14 +55,8 @@ fn start(timers: &mut Timers, value: &str) -> Result<(), Refusal> {
 // The answer to a question.
 fn asked(alloc: Global, timers: &Timers, name: &str, value: &str) -> Result<String, Refusal> {
     match name {
-        "due" => match timers.due(moment(value)?) {
-            Some(id) => text_of(alloc, id),
-            None => none(alloc),
-        },
-        "deadline" => match timers.copy().deadline(timer(value)?) {
-            Some(at) => milliseconds(alloc, at),
-            None => none(alloc),
-        },
+        "due" => id_or_none(alloc, timers.due(moment(value)?)),
+        "deadline" => at_or_none(alloc, timers.copy().deadline(timer(value)?)),
         "lasts" => milliseconds(alloc, Durations::standard().of(&timer(value)?)),
         _ => Err(Refusal::Unreadable),
     }
@@ -62,45 +69,67 @@ fn moment(word: &str) -> Result<Moment, Refusal> {
     }
 }
 
-fn milliseconds(alloc: Global, at: Moment) -> Result<String, Refusal> {
-    let number = at.0;
-    format!(in alloc; "{number}").map_err(|_| Refusal::Memory)
+fn at_or_none(alloc: Global, at: Option<Moment>) -> Result<String, Refusal> {
+    match at {
+        Some(at) => milliseconds(alloc, at),
+        None => none(alloc),
+    }
 }
 
-fn none(alloc: Global) -> Result<String, Refusal> {
-    String::from_str(alloc, "none").map_err(|_| Refusal::Memory)
+fn milliseconds(alloc: Global, at: Moment) -> Result<String, Refusal> {
+    let number = at.0;
+    word(format!(in alloc; "{number}"))
 }
 
 // A word behind those of the line.
-fn append(alloc: Global, line: &mut String, word: String) -> Result<(), Refusal> {
-    let blank = if line.is_empty() { "" } else { " " };
-    let more = format!(in alloc; "{blank}{word}").map_err(|_| Refusal::Memory)?;
-    line.push_str(more.as_str()).map_err(|_| Refusal::Memory)
+fn append(line: &mut String, word: String) -> Result<(), Refusal> {
+    if !line.is_empty() {
+        push(line, " ")?;
+    }
+    push(line, word.as_str())
+}
+
+fn id_or_none(alloc: Global, id: Option<TimerId>) -> Result<String, Refusal> {
+    match id {
+        Some(id) => id_text(alloc, id),
+        None => none(alloc),
+    }
 }
 
 // The name of a timer.
-fn text_of(alloc: Global, id: TimerId) -> Result<String, Refusal> {
-    let (name, psi) = match id {
-        TimerId::T3510 => ("T3510", None),
-        TimerId::T3516 => ("T3516", None),
-        TimerId::T3517 => ("T3517", None),
-        TimerId::T3521 => ("T3521", None),
-        TimerId::T3522 => ("T3522", None),
-        TimerId::T3550 => ("T3550", None),
-        TimerId::T3555 => ("T3555", None),
-        TimerId::T3560 => ("T3560", None),
-        TimerId::T3580(psi) => ("T3580", Some(psi)),
-        TimerId::T3581(psi) => ("T3581", Some(psi)),
-        TimerId::T3582(psi) => ("T3582", Some(psi)),
-        TimerId::T3591(psi) => ("T3591", Some(psi)),
-        TimerId::T3592(psi) => ("T3592", Some(psi)),
-    };
-    let word = match psi {
-        None => String::from_str(alloc, name),
-        Some(psi) => {
-            let number = psi.0;
-            format!(in alloc; "{name}/{number}")
-        }
-    };
-    word.map_err(|_| Refusal::Memory)
+fn id_text(alloc: Global, id: TimerId) -> Result<String, Refusal> {
+    let name = name_of(&id);
+    match session_of(&id) {
+        None => literal(alloc, name),
+        Some(Psi(number)) => word(format!(in alloc; "{name}/{number}")),
+    }
+}
+
+fn name_of(id: &TimerId) -> &'static str {
+    match id {
+        TimerId::T3510 => "T3510",
+        TimerId::T3516 => "T3516",
+        TimerId::T3517 => "T3517",
+        TimerId::T3521 => "T3521",
+        TimerId::T3522 => "T3522",
+        TimerId::T3550 => "T3550",
+        TimerId::T3555 => "T3555",
+        TimerId::T3560 => "T3560",
+        TimerId::T3580(_) => "T3580",
+        TimerId::T3581(_) => "T3581",
+        TimerId::T3582(_) => "T3582",
+        TimerId::T3591(_) => "T3591",
+        TimerId::T3592(_) => "T3592",
+    }
+}
+
+fn session_of(id: &TimerId) -> Option<Psi> {
+    match id {
+        TimerId::T3580(psi) => Some(*psi),
+        TimerId::T3581(psi) => Some(*psi),
+        TimerId::T3582(psi) => Some(*psi),
+        TimerId::T3591(psi) => Some(*psi),
+        TimerId::T3592(psi) => Some(*psi),
+        _ => None,
+    }
 }

@@ -5,21 +5,23 @@
 //! ROWS are the rows of a shape with commas between, each an identifier in hex and its form: `half`, a number of octets, `tlv` or
 //! `tlve`, as in `2e:tlv,52:3`. The answer is the octets that are found under the identifier, or `none`.
 
-use crate::words::{Refusal, octet, octets, text};
 use nas_base::{Form, Row, Shape, walk};
+use probe_words::{Refusal, none, octet, octets, text};
 use std::alloc::Global;
 
 /// The answer to a call.
 pub fn answer(alloc: Global, words: &[&str]) -> Result<String, Refusal> {
-    let ["walk", rows, given, iei] = words else {
-        return Err(Refusal::Unreadable);
-    };
-    let given = octets(alloc, given)?;
+    match words {
+        ["walk", rows, given, iei] => found(alloc, rows, &octets(alloc, given)?, octet(iei)?),
+        _ => Err(Refusal::Unreadable),
+    }
+}
+
+fn found(alloc: Global, rows: &str, given: &[u8], iei: u8) -> Result<String, Refusal> {
     let shape = shape(alloc, rows)?;
-    let found = walk(&given, &shape);
-    match found.get(octet(iei)?) {
+    match walk(given, &shape).get(iei) {
         Some(value) => text(alloc, value),
-        None => String::from_str(alloc, "none").map_err(|_| Refusal::Memory),
+        None => none(alloc),
     }
 }
 
@@ -34,15 +36,15 @@ fn shape(alloc: Global, rows: &str) -> Result<Shape, Refusal> {
 }
 
 fn row(word: &str) -> Result<Row, Refusal> {
-    let Some((iei, form)) = word.split_once(":") else {
-        return Err(Refusal::Unreadable);
-    };
-    let iei = octet(iei)?;
+    match word.split_once(":") {
+        Some((iei, form)) => row_of(octet(iei)?, form),
+        None => Err(Refusal::Unreadable),
+    }
+}
+
+fn row_of(iei: u8, form: &str) -> Result<Row, Refusal> {
     match form {
-        "half" if matches!(iei, 0x80 | 0x90 | 0xa0 | 0xd0) => Ok(Row {
-            iei,
-            form: Form::Half,
-        }),
+        "half" => half(iei),
         "tlv" => Ok(Row {
             iei,
             form: Form::Tlv,
@@ -52,6 +54,17 @@ fn row(word: &str) -> Result<Row, Refusal> {
             form: Form::Tlve,
         }),
         _ => fixed(iei, form),
+    }
+}
+
+// An element in half an octet, which some identifiers name.
+fn half(iei: u8) -> Result<Row, Refusal> {
+    match iei {
+        0x80 | 0x90 | 0xa0 | 0xd0 => Ok(Row {
+            iei,
+            form: Form::Half,
+        }),
+        _ => Err(Refusal::Unreadable),
     }
 }
 

@@ -5,7 +5,7 @@ use Rattle.nas_network.specs.State.{NetworkState}
 use Rattle.nas_network.proofs.FirstOwners.{first_owned}
 use Rattle.nas_network.proofs.network.Network.new.Goals as goal
 
-pub invariant_of-result : goal.invariant_of-result
-invariant_of-result c =
+pub invariant_of-result-2 : goal.invariant_of-result-2
+invariant_of-result-2 c =
     let config : IsNetwork c.args.config.now = subst (λ (n : NetValues). IsNetwork n) c.config.view_is c.config.invariant in
-    subst (λ (n : NetworkState). HaveOwners n) (sym c.in_ok-parts.ensures) (first_owned c.args.config.now config)
+    subst (λ (n : NetworkState). HaveOwners n) (sym c.in_ok-amf.ensures) (first_owned c.args.config.now config)

@@ -1,0 +1,76 @@
+//! A handset on its way through inputs.
+
+use crate::handset_inputs::Input;
+use crate::handset_texts::{delivery_text, refusal_text, sends_text, view_text};
+use nas_base::Moment;
+use nas_handset::{Handset, UeCommand};
+use probe_words::{Refusal, push};
+use std::alloc::Global;
+use ue_mm::HandsetConfig;
+
+/// A handset, and what it answered so far.
+#[derive(Drop)]
+pub struct Course {
+    handset: Handset,
+    pub told: String,
+}
+
+impl Course {
+    /// A handset that was just made.
+    pub fn new(alloc: Global, config: &HandsetConfig) -> Result<Course, Refusal> {
+        let handset = Handset::new(alloc, config)?;
+        Ok(Course {
+            handset,
+            told: String::new(alloc),
+        })
+    }
+
+    /// What comes of the next input, behind the other answers.
+    pub fn go(&mut self, alloc: Global, input: Input) -> Result<(), Refusal> {
+        let came = self.came(alloc, input)?;
+        let view = view_text(alloc, &self.handset.view())?;
+        if !self.told.is_empty() {
+            push(&mut self.told, " ")?;
+        }
+        push(&mut self.told, came.as_str())?;
+        push(&mut self.told, view.as_str())
+    }
+
+    // What comes of an input, with a comma behind each.
+    fn came(&mut self, alloc: Global, input: Input) -> Result<String, Refusal> {
+        match input {
+            Input::Command(command) => self.commanded(alloc, &command),
+            Input::Octets(octets) => self.delivered(alloc, &octets),
+            Input::Tick(now) => self.ticked(alloc, now),
+            Input::Drop => {
+                self.handset.drop_link(alloc)?;
+                Ok(String::new(alloc))
+            }
+            Input::Restart => {
+                self.handset.restart(alloc)?;
+                Ok(String::new(alloc))
+            }
+            Input::Copy => {
+                self.handset = self.handset.copy(alloc)?;
+                Ok(String::new(alloc))
+            }
+        }
+    }
+
+    fn commanded(&mut self, alloc: Global, command: &UeCommand) -> Result<String, Refusal> {
+        match self.handset.command(alloc, command) {
+            Ok(sends) => sends_text(alloc, &sends),
+            Err(refusal) => refusal_text(alloc, refusal),
+        }
+    }
+
+    fn delivered(&mut self, alloc: Global, octets: &[u8]) -> Result<String, Refusal> {
+        let delivery = self.handset.deliver(alloc, octets)?;
+        delivery_text(alloc, &delivery)
+    }
+
+    fn ticked(&mut self, alloc: Global, now: Moment) -> Result<String, Refusal> {
+        let sends = self.handset.tick(alloc, now)?;
+        sends_text(alloc, &sends)
+    }
+}

@@ -1,0 +1,93 @@
+//! The words that are given to a handset's 5GMM; mobility_calls lists them.
+
+use crate::handset_inputs::command;
+use nas_base::{Octets, Psi};
+use nas_elements::{Dnn, Status};
+use nas_handset::UeCommand;
+use probe_words::{Refusal, kept, octets, quantity, session, timer};
+use std::alloc::Global;
+use ue_mm::{MmCommand, UeInput};
+
+/// What a word gives.
+#[derive(Drop)]
+pub enum Given {
+    /// The sessions that are held from here on.
+    Held(Status),
+    /// The next counts of the context in use, up and down.
+    Counts { up: u32, down: u32 },
+    Input(UeInput),
+}
+
+/// What a word gives.
+pub fn read_given(alloc: Global, word: &str) -> Result<Given, Refusal> {
+    match word.split_once(":") {
+        Some(("held", value)) => Ok(Given::Held(status(alloc, value)?)),
+        Some(("counts", value)) => counts(value),
+        Some((name, value)) => Ok(Given::Input(input_of(alloc, name, value)?)),
+        None => Ok(Given::Input(bare(word)?)),
+    }
+}
+
+fn input_of(alloc: Global, name: &str, value: &str) -> Result<UeInput, Refusal> {
+    match name {
+        "octets" => Ok(UeInput::Delivered(message(alloc, value)?)),
+        "expired" => Ok(UeInput::Expired(timer(value)?)),
+        "carry" => carry(alloc, value),
+        _ => Err(Refusal::Unreadable),
+    }
+}
+
+// The input of a word that stands alone.
+fn bare(word: &str) -> Result<UeInput, Refusal> {
+    match word {
+        "drop" => Ok(UeInput::Dropped),
+        "restart" => Ok(UeInput::Restart),
+        _ => Ok(UeInput::Command(to_mm(command(word)?))),
+    }
+}
+
+fn to_mm(command: UeCommand) -> MmCommand {
+    match command {
+        UeCommand::Register(kind) => MmCommand::Register(kind),
+        UeCommand::Service => MmCommand::Service,
+        UeCommand::Deregister { switch_off } => MmCommand::Deregister { switch_off },
+    }
+}
+
+fn counts(words: &str) -> Result<Given, Refusal> {
+    let Some((up, down)) = words.split_once(":") else {
+        return Err(Refusal::Unreadable);
+    };
+    Ok(Given::Counts {
+        up: quantity(up)?,
+        down: quantity(down)?,
+    })
+}
+
+fn status(alloc: Global, word: &str) -> Result<Status, Refusal> {
+    Status::read(&octets(alloc, word)?).map_err(|_| Refusal::Unreadable)
+}
+
+fn message(alloc: Global, word: &str) -> Result<Octets, Refusal> {
+    kept(alloc, &octets(alloc, word)?)
+}
+
+fn carry(alloc: Global, words: &str) -> Result<UeInput, Refusal> {
+    let Some((number, words)) = words.split_once(":") else {
+        return Err(Refusal::Unreadable);
+    };
+    let psi = session(number)?;
+    match words.split_once(":") {
+        Some((frame, dnn)) => carried(alloc, psi, Some(network(alloc, dnn)?), frame),
+        None => carried(alloc, psi, None, words),
+    }
+}
+
+fn carried(alloc: Global, psi: Psi, dnn: Option<Dnn>, frame: &str) -> Result<UeInput, Refusal> {
+    let frame = message(alloc, frame)?;
+    Ok(UeInput::Carry { psi, dnn, frame })
+}
+
+fn network(alloc: Global, word: &str) -> Result<Dnn, Refusal> {
+    Dnn::read(&octets(alloc, word)?).map_err(|_| Refusal::Unreadable)
+}

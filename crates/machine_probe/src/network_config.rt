@@ -1,0 +1,204 @@
+//! The network of a call, and its subscribers; network_calls lists their words.
+ghost use Rattle.std.specs.Prelude.{◌≡◌, ◌≤◌, ◌==◌, ◌||◌, [], ◌∷◌, ◌++◌, true, false, IfOk, OnOk};
+ghost use Rattle.milenage.specs.Checking.{is_for_5g};
+ghost use Rattle.milenage.specs.Home.{is_sqn};
+ghost use Rattle.nas_base.specs.Supi.{is_of_plmn};
+ghost use Rattle.nas_timers.specs.Durations.{is_duration};
+ghost use Rattle.nas_network.specs.Config.{are_subscribers, is_subscriber};
+
+use crate::handset_config::sequence_number;
+use nas_base::{Moment, Plmn, Supi};
+use nas_elements::{Ambr, Dnn, Dnns, Nssai, Timer3};
+use nas_network::{
+    NetConfig, Subscriber, Subscribers, is_for_5g, is_pool_size, is_subscriber, pool_fits,
+};
+use nas_timers::Durations;
+use probe_words::{Refusal, exactly, network, octet, octets, quantity, subscriber};
+use std::alloc::Global;
+
+// What is the same for all networks of the calls, since nothing is seen of it without sessions.
+const POOL: [u8; 4] = [10, 45, 0, 2];
+
+const POOL_SIZE: u32 = 250;
+
+const DNN: [u8; 9] = *b"\x08internet";
+
+const AMBR: Ambr = Ambr {
+    down_unit: 6,
+    down: 1000,
+    up_unit: 6,
+    up: 1000,
+};
+
+const DAY: u64 = 86_400_000;
+
+/// The network of these words.
+pub fn read_config(alloc: Global, words: &str, subscribers: &str) -> Result<NetConfig, Refusal> {
+    let parts = parts_of(alloc, words, ':')?;
+    let [plmn, amf, tmsi, nea, tac, t3512, timers @ ..] = parts.as_slice() else {
+        return Err(Refusal::Unreadable);
+    };
+    let plmn = network(plmn)?;
+    let [region, set, pointer] = exactly::<3>(amf)?;
+    let subscribers = parts_of(alloc, subscribers, ',')?;
+    let subscribers = read_subscribers(alloc, &plmn, subscribers.as_slice())?;
+    if !is_pool_size(POOL_SIZE) || !pool_fits(&POOL, POOL_SIZE) {
+        return Err(Refusal::Unreadable);
+    }
+    Ok(NetConfig {
+        plmn,
+        region,
+        set_pointer: u16::from_be_bytes([set, pointer]),
+        tmsi: first_tmsi(tmsi)?,
+        nea: ciphering(nea)?,
+        tac: exactly::<3>(tac)?,
+        t3512: timer(t3512)?,
+        pool: POOL,
+        pool_size: POOL_SIZE,
+        ambr: AMBR,
+        durations: read_durations(timers)?,
+        subscribers,
+    })
+}
+
+// The durations of T3522, T3550 and T3560; all others are the standard ones.
+fn read_durations(words: &[&str]) -> Result<Durations, Refusal> {
+    let [t3522, t3550, t3560] = words else {
+        return Err(Refusal::Unreadable);
+    };
+    Ok(Durations {
+        t3522: duration(t3522)?,
+        t3550: duration(t3550)?,
+        t3560: duration(t3560)?,
+        ..Durations::standard()
+    })
+}
+
+// The parts of a word, with this character between.
+fn parts_of<'a>(alloc: Global, word: &'a str, between: char) -> Result<Vec<&'a str>, Refusal> {
+    word.split(between)
+        .collect::<Vec<&str>>(alloc)
+        .map_err(|_| Refusal::Memory)
+}
+
+fn duration(word: &str) -> Result<Moment, Refusal>
+    ensures { IfOk result (λ moment. is_duration moment ≡ true) }
+{
+    match word.parse::<u64>() {
+        Ok(ms) if 1 <= ms && ms <= DAY => Ok(Moment(ms)),
+        _ => Err(Refusal::Unreadable),
+    }
+}
+
+fn first_tmsi(word: &str) -> Result<u32, Refusal>
+    ensures { IfOk result (λ tmsi. 1 ≤ tmsi) }
+{
+    match quantity(word)? {
+        0 => Err(Refusal::Unreadable),
+        tmsi => Ok(tmsi),
+    }
+}
+
+// The ciphering that is preferred.
+fn ciphering(word: &str) -> Result<u8, Refusal>
+    ensures { IfOk result (λ nea. (nea == 0 || nea == 2) ≡ true) }
+{
+    match word {
+        "0" => Ok(0),
+        "2" => Ok(2),
+        _ => Err(Refusal::Unreadable),
+    }
+}
+
+fn timer(word: &str) -> Result<Timer3, Refusal> {
+    Timer3::read(&[octet(word)?]).map_err(|_| Refusal::Unreadable)
+}
+
+// The subscribers of these words, which are no two with one SUPI.
+fn read_subscribers(alloc: Global, plmn: &Plmn, words: &[&str]) -> Result<Subscribers, Refusal>
+    ensures { IfOk result (λ subscribers. are_subscribers plmn.now subscribers ≡ true) }
+{
+    if words.is_empty() || words.len() > 64 {
+        return Err(Refusal::Unreadable);
+    }
+    let mut items = Vec::new(alloc);
+    for word in words {
+        let subscriber = read_subscriber(alloc, plmn, items.as_slice(), word)?;
+        push(&mut items, subscriber)?;
+    }
+    Ok(Subscribers { items })
+}
+
+// One more subscriber at the end.
+fn push(items: &mut Vec<Subscriber>, subscriber: Subscriber) -> Result<(), Refusal>
+    ensures { OnOk result (items.new.items ≡ items.old.items ++ subscriber ∷ []) }
+{
+    match items.push(subscriber) {
+        Ok(()) => Ok(()),
+        Err(_) => Err(Refusal::Memory),
+    }
+}
+
+// A subscriber whose SUPI none before has.
+fn read_subscriber(
+    alloc: Global,
+    plmn: &Plmn,
+    before: &[Subscriber],
+    word: &str,
+) -> Result<Subscriber, Refusal>
+    ensures network { IfOk result (λ subscriber. is_of_plmn plmn.now subscriber.supi ≡ true) }
+    ensures fresh { IfOk result (λ subscriber. is_subscriber subscriber.supi before.now ≡ false) }
+{
+    let parts = parts_of(alloc, word, ':')?;
+    let [supi, k, opc, field, sqn, slices] = parts.as_slice() else {
+        return Err(Refusal::Unreadable);
+    };
+    let supi = new_supi(plmn, before, supi)?;
+    Ok(Subscriber {
+        supi,
+        k: exactly(k)?,
+        opc: exactly(opc)?,
+        field: field_of(field)?,
+        sqn: sqn_of(sqn)?,
+        dnns: dnns(alloc)?,
+        slices: Nssai::read(&octets(alloc, slices)?).map_err(|_| Refusal::Unreadable)?,
+    })
+}
+
+fn new_supi(plmn: &Plmn, before: &[Subscriber], word: &str) -> Result<Supi, Refusal>
+    ensures network { IfOk result (λ supi. is_of_plmn plmn.now supi ≡ true) }
+    ensures fresh { IfOk result (λ supi. is_subscriber supi before.now ≡ false) }
+{
+    let supi = subscriber(word)?;
+    if !supi.is_of(plmn) || is_subscriber(&supi, before) {
+        return Err(Refusal::Unreadable);
+    }
+    Ok(supi)
+}
+
+fn field_of(word: &str) -> Result<[u8; 2], Refusal>
+    ensures { IfOk result (λ field. is_for_5g field ≡ true) }
+{
+    let field = exactly::<2>(word)?;
+    if !is_for_5g(&field) {
+        return Err(Refusal::Unreadable);
+    }
+    Ok(field)
+}
+
+fn sqn_of(word: &str) -> Result<u64, Refusal>
+    ensures { IfOk result (λ sqn. is_sqn sqn ≡ true) }
+{
+    let sqn = sequence_number(word)?;
+    if sqn >= 1 << 48 {
+        return Err(Refusal::Unreadable);
+    }
+    Ok(sqn)
+}
+
+fn dnns(alloc: Global) -> Result<Dnns, Refusal> {
+    let mut names = Vec::new(alloc);
+    let name = Dnn::read(&DNN).map_err(|_| Refusal::Unreadable)?;
+    names.push(name).map_err(|_| Refusal::Memory)?;
+    Dnns::from_items(names).ok_or(Refusal::Unreadable)
+}

@@ -1,0 +1,16 @@
+pub mod CellPlaces
+pub mod Each
+pub mod EndingCells
+pub mod Fits
+pub mod Following
+pub mod Identities
+pub mod Moves
+pub mod Places
+pub mod Requests
+pub mod Staying
+pub mod StepLaws
+pub mod Stops
+pub mod TimerCommands
+pub mod TimerLaw
+pub mod TimerRows
+pub mod TimerSteps

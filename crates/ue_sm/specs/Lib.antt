@@ -1,0 +1,17 @@
+pub mod Cells
+pub mod Commands
+pub mod Delivery
+pub mod Establishment
+pub mod Laws
+pub mod Mobility
+pub mod Modification
+pub mod NetworkCommands
+pub mod Outcome
+pub mod Release
+pub mod Rules
+pub mod State
+pub mod Step
+pub mod TimerLaws
+pub mod Timers
+pub mod Transactions
+pub mod Work
