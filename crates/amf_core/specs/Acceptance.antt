@@ -1,11 +1,10 @@
 -- A registration that is accepted (TS 24.501 clauses 5.5.1.2.4 and 5.5.1.3.4).
 use Rattle.std.specs.Prelude.{ℕ, ◌^◌, Bool, true, false, ◌==◌, ◌&&◌, nat_lt, List, [], ◌∷◌, Option, Some}
-use Rattle.std.specs.Str.{bytes_eq}
 use Rattle.nas_base.specs.Branches.{per, when◌then◌else◌}
 use Rattle.nas_base.specs.declared.mm_cause.TheConstants as cause
 use Rattle.nas_elements.specs.Status.{both, no_session}
 use Rattle.nas_elements.specs.declared.guti.Guti.{Guti}
-use Rattle.nas_security.specs.Contexts.{SecurityContext}
+use Rattle.nas_security.specs.Contexts.{SecurityContext, is_challenge}
 use Rattle.nas_security.specs.declared.challenges.Challenge.{Challenge}
 use Rattle.nas_timers.specs.declared.timer_id.TimerId.TheVariants.{T3550}
 use Rattle.mm_messages.specs.declared.message.Mm.TheVariants as mm
@@ -86,9 +85,6 @@ registration_goes_on number r q context s w = registration_granted number r q co
 
 -- REGISTRATION COMPLETE under the challenge that the 5G-GUTI was offered under: it is kept alone. The acceptance ends, if it is still
 -- open; another procedure goes on.
-abbrev pub is_challenge : Challenge → Challenge → Bool
-is_challenge one other = one.sqn == other.sqn && bytes_eq one.rand other.rand
-
 abbrev pub acceptance_ended : Procedure → Subscriber → Work → Work
 acceptance_ended (procedures.Accepting a) s w = ended s w
 acceptance_ended procedures.Idle s w = put s w

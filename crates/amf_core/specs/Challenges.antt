@@ -1,8 +1,8 @@
 -- Challenges: how one starts, what is sent of it, and how a procedure ends (TS 24.501 clauses 5.4.1.3 and 5.4.2, TS 33.501 clause 6.1.3.2).
-use Rattle.std.specs.Prelude.{ℕ, ◌<◌, ◌^◌, Bool, false, not, ◌==◌, ◌&&◌, ◌||◌, List, [], ◌∷◌, take, Option, Some, None, Result, Ok, Err, if◌then◌else◌}
+use Rattle.std.specs.Prelude.{ℕ, ◌<◌, ◌^◌, Bool, false, not, ◌==◌, ◌&&◌, ◌||◌, List, [], ◌∷◌, Option, Some, None, Result, Ok, Err, if◌then◌else◌}
 use Rattle.nas_base.specs.Branches.{per}
 use Rattle.nas_base.specs.declared.mm_cause.TheConstants as cause
-use Rattle.key_chain.specs.Keys.{kamf, kausf, kseaf, res_star}
+use Rattle.key_chain.specs.Keys.{abba, challenge_kamf, res_star}
 use Rattle.milenage.specs.Home.{challenge_of, challenged}
 use Rattle.milenage.specs.declared.home.HomeRefusal.{HomeRefusal}
 use Rattle.milenage.specs.declared.vector.Vector.{Vector}
@@ -62,13 +62,9 @@ capability_of s = per s.capability no_algorithm (λ (capability : List ℕ). cap
 abbrev pub chosen_nea : Configured → List ℕ → ℕ
 chosen_nea config capability = if not (has_ea 0 capability) || (has_ea 2 capability && config.nea == 2) then 2 else 0
 
--- the ABBA of this release (TS 33.501 Annex A.7.1)
-abbrev pub abba : List ℕ
-abba = 0 ∷ 0 ∷ []
-
--- KAMF of a vector: the first six octets of AUTN are SQN XOR AK (TS 33.501 Annex A)
+-- KAMF of a vector
 abbrev pub kamf_of : Configured → List ℕ → Vector → List ℕ
-kamf_of config supi v = kamf (kseaf (kausf v.ck v.ik config.plmn (take 6 v.autn)) config.plmn) supi abba
+kamf_of config supi v = challenge_kamf v.ck v.ik v.autn config.plmn supi abba
 
 -- what the answer to a vector is compared with, and what comes of it
 abbrev pub authentication : Configured → Vector → Subscriber → AuthenticationValues

@@ -1,7 +1,7 @@
 //! A registration that is accepted.
 ghost use Rattle.std.specs.Prelude.{◌≡◌, ◌<◌, ◌^◌, OnOk};
 ghost use Rattle.amf_core.specs.Work.{config_of};
-ghost use Rattle.amf_core.specs.Acceptance.{acceptance_ended, acceptance_put, confirmed, is_challenge, is_initial, kept_with, new_guti, offered, opened_acceptance, registration_completed, registration_goes_on, registration_granted, released, tmsi_of, tmsi_taken, told_sessions};
+ghost use Rattle.amf_core.specs.Acceptance.{acceptance_ended, acceptance_put, confirmed, is_initial, kept_with, new_guti, offered, opened_acceptance, registration_completed, registration_goes_on, registration_granted, released, tmsi_of, tmsi_taken, told_sessions};
 
 use crate::subscriber::copied_offer;
 use crate::work::Work;
@@ -93,13 +93,6 @@ fn opened_acceptance(
         completed: false,
         ..s
     }
-}
-
-// Whether two challenges are the same.
-fn is_challenge(one: &Challenge, other: &Challenge) -> bool
-    ensures { result ≡ is_challenge one.now other.now }
-{
-    one.sqn == other.sqn && one.rand == other.rand
 }
 
 // A subscriber whose 5G-GUTI is confirmed.
@@ -241,7 +234,7 @@ impl<'a> Work<'a> {
         let Some(offer) = copied_offer(&s.offered) else {
             return Ok(());
         };
-        if !is_challenge(&offer.challenge, challenge) {
+        if !offer.challenge.equals(challenge) {
             return Ok(());
         }
         self.end_acceptance(confirmed(&offer.guti, s))

@@ -5,7 +5,7 @@ ghost use Rattle.amf_core.specs.Challenges.{VectorFits, asked_for, authenticatio
 use crate::acts::Protection;
 use crate::work::Work;
 use crate::{Authentication, Challenging, Configured, Phase, Procedure, Purpose, Subscriber};
-use key_chain::{kamf, kausf, kseaf, res_star};
+use key_chain::{ABBA, challenge_kamf, res_star};
 use milenage::{HomeRefusal, Vector};
 use mm_messages::{AuthenticationRequest, Mm, SecurityModeCommand};
 use nas_base::mm_cause::PROTOCOL_ERROR_UNSPECIFIED;
@@ -15,9 +15,6 @@ use nas_layout::Abba;
 use nas_security::{Challenge, Context};
 use nas_timers::TimerId;
 use std::alloc::Global;
-
-// The ABBA of this release (TS 33.501 Annex A.7.1).
-const ABBA: [u8; 2] = [0, 0];
 
 // Additional 5G security information: the whole initial message is requested (TS 24.501 clause 9.11.3.12).
 const WHOLE_MESSAGE: Asi = Asi(2);
@@ -78,9 +75,7 @@ fn chosen_nea(config: &Configured, capability: &Capability) -> u8
 fn kamf_of(config: &Configured, supi: &Supi, v: &Vector) -> [u8; 32]
     ensures { result ≡ kamf_of config.now supi.now v.now }
 {
-    let [a, b, c, d, e, f, ..] = v.autn;
-    let kausf = kausf(&v.ck, &v.ik, &config.plmn, &[a, b, c, d, e, f]);
-    kamf(&kseaf(&kausf, &config.plmn), supi, &ABBA)
+    challenge_kamf(&v.ck, &v.ik, &v.autn, &config.plmn, supi, &ABBA)
 }
 
 // What the answer to a vector is compared with, and what comes of it.

@@ -28,8 +28,6 @@ mod security_mode;
 mod service;
 mod stepping;
 mod subscriber;
-#[cfg(test)]
-mod tests;
 mod transport;
 mod view;
 mod work;

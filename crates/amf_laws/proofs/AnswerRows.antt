@@ -30,7 +30,7 @@ use Rattle.amf_core.specs.declared.procedures.Purpose.TheVariants.{Registration,
 use Rattle.amf_core.specs.declared.security_mode.Commanding.{Commanding}
 use Rattle.amf_core.specs.declared.subscriber.Subscriber.{Subscriber}
 use Rattle.amf_core.specs.declared.work.Work.{Work}
-use Rattle.amf_laws.proofs.Branching.{per_holds, when_holds}
+use Rattle.nas_base.proofs.Branching.{per_holds, when_holds}
 use Rattle.amf_laws.proofs.ChallengeRows.{MayRefuse, challenge_put_moves, challenge_runs, challenge_settles, ended_moves, say_on_moves, stopped_moves}
 use Rattle.amf_laws.proofs.LinkRecords.{same_number}
 use Rattle.amf_laws.proofs.Moves.{Beginning, MayLink, Own, by_link_may, links_now, Moves, Settled, settled, told_as}

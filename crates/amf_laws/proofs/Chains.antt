@@ -12,7 +12,7 @@ use Rattle.amf_core.specs.declared.acts.Protection.{Protection}
 use Rattle.amf_core.specs.declared.requests.Request.{Request}
 use Rattle.amf_core.specs.declared.subscriber.Subscriber.{Subscriber}
 use Rattle.amf_core.specs.declared.work.Work.{Work}
-use Rattle.amf_laws.proofs.Branching.{per_holds}
+use Rattle.nas_base.proofs.Branching.{per_holds}
 use Rattle.amf_laws.proofs.Moves.{MayProtect, Settled, begins}
 use Rattle.amf_laws.proofs.Records.{found_among, found_by_supi, found_has, stay_distinct}
 use Rattle.amf_laws.specs.Passing.{IsAmong}

@@ -22,7 +22,7 @@ use Rattle.amf_core.specs.declared.procedures.Purpose.{Purpose}
 use Rattle.amf_core.specs.declared.procedures.Purpose.TheVariants.{Registration, Command}
 use Rattle.amf_core.specs.declared.subscriber.Subscriber.{Subscriber}
 use Rattle.amf_core.specs.declared.work.Work.{Work}
-use Rattle.amf_laws.proofs.Branching.{per_holds}
+use Rattle.nas_base.proofs.Branching.{per_holds}
 use Rattle.amf_laws.proofs.Moves.{Beginning, MayLink, MayProtect, Own, by_link_may, links_now, own_protection_may, Moves, Settled, settled}
 use Rattle.amf_laws.proofs.Moves.Moves.{said, starts, stops, puts, links, homes}
 use Rattle.amf_laws.specs.Timers.{Running, none_runs, running_in, with_timer}

@@ -11,7 +11,7 @@ use Rattle.amf_core.specs.declared.procedures.Procedure.{Procedure}
 use Rattle.amf_core.specs.declared.security_mode.Commanding.{Commanding}
 use Rattle.amf_core.specs.declared.subscriber.Subscriber.{Subscriber}
 use Rattle.amf_core.specs.declared.work.Work.{Work}
-use Rattle.amf_laws.proofs.Branching.{per_holds}
+use Rattle.nas_base.proofs.Branching.{per_holds}
 use Rattle.amf_laws.proofs.ChallengeRows.{challenge_runs}
 use Rattle.amf_laws.proofs.Chains.{Chain, IsChecked, IsCurrent, Received, kept_now}
 use Rattle.amf_laws.proofs.Chains.Chain.{nothing, speaks, waits, passes, does}

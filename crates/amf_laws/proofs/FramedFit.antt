@@ -18,7 +18,7 @@ use Rattle.amf_core.specs.declared.procedures.Procedure.{Procedure}
 use Rattle.amf_core.specs.declared.procedures.Procedure.TheVariants as procedures
 use Rattle.amf_core.specs.declared.security_mode.Commanding.{Commanding}
 use Rattle.amf_core.specs.declared.subscriber.Subscriber.{Subscriber}
-use Rattle.amf_laws.proofs.Branching.{per_holds, when_holds}
+use Rattle.nas_base.proofs.Branching.{per_holds, when_holds}
 use Rattle.amf_laws.proofs.ChallengeRows.{challenge_runs}
 use Rattle.amf_laws.proofs.Records.{are_equal, found_has, kept_by_now, other_is_found, own_is_found}
 use Rattle.amf_laws.proofs.Told.{acted_of, all_acted, outs_onto}

@@ -1,5 +1,4 @@
 pub mod AnswerRows
-pub mod Branching
 pub mod Chains
 pub mod ChallengeRows
 pub mod DeliveryRows

@@ -20,7 +20,7 @@ use Rattle.amf_core.specs.declared.outs.AmfOut.TheVariants.{Send, Passed, Smf, S
 use Rattle.amf_core.specs.declared.requests.Request.{Request}
 use Rattle.amf_core.specs.declared.work.Work.{Work}
 use Rattle.nas_security.specs.declared.sends.Pass.{Pass}
-use Rattle.amf_laws.proofs.Branching.{when_true}
+use Rattle.nas_base.proofs.Branching.{when_true}
 use Rattle.amf_laws.proofs.Chains.{Chain, Received}
 use Rattle.amf_laws.proofs.Chains.Chain.{nothing, speaks, waits, passes, does}
 use Rattle.amf_laws.proofs.DeliveryRows.{received_chain}

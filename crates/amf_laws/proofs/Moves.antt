@@ -15,7 +15,7 @@ use Rattle.amf_core.specs.declared.outs.SmfAsk.{SmfAsk}
 use Rattle.amf_core.specs.declared.requests.Request.{Request}
 use Rattle.amf_core.specs.declared.subscriber.Subscriber.{Subscriber}
 use Rattle.amf_core.specs.declared.work.Work.{Work}
-use Rattle.amf_laws.proofs.Branching.{per_holds, when_holds}
+use Rattle.nas_base.proofs.Branching.{per_holds, when_holds}
 use Rattle.amf_laws.specs.Kept.{AreFew}
 use Rattle.amf_laws.specs.Timers.{Running, running_in, with_timer}
 

@@ -32,7 +32,7 @@ use Rattle.amf_core.specs.declared.link.Link.{Link}
 use Rattle.amf_core.specs.declared.outs.AmfOut.TheVariants.{Passed, Smf, Start, Stop}
 use Rattle.amf_core.specs.declared.subscriber.Subscriber.{Subscriber}
 use Rattle.amf_core.specs.declared.work.Work.{Work}
-use Rattle.amf_laws.proofs.Branching.{per_holds, when_holds}
+use Rattle.nas_base.proofs.Branching.{per_holds, when_holds}
 use Rattle.amf_laws.proofs.Chains.{Chain, IsChecked, Received, kept_now, link_is_current}
 use Rattle.amf_laws.proofs.Chains.Chain.{nothing, speaks, waits, passes, does}
 use Rattle.amf_laws.proofs.DeliveryRows.{MayNamed, MayPass, MayReceive, named_by, named_if, named_in, names, sender_is_current}

@@ -21,7 +21,7 @@ use Rattle.amf_core.specs.declared.procedures.Purpose.TheVariants.{Registration}
 use Rattle.amf_core.specs.declared.requests.Request.{Request}
 use Rattle.amf_core.specs.declared.subscriber.Subscriber.{Subscriber}
 use Rattle.amf_core.specs.declared.work.Work.{Work}
-use Rattle.amf_laws.proofs.Branching.{per_holds, when_holds}
+use Rattle.nas_base.proofs.Branching.{per_holds, when_holds}
 use Rattle.amf_laws.proofs.ChallengeRows.{challenge_settles, ended_moves, say_on_moves, stopped_moves}
 use Rattle.amf_laws.proofs.Moves.{Beginning, MayLink, Own, by_link_may, links_now, own_protection_may, Moves, Settled, settled}
 use Rattle.amf_laws.proofs.Moves.Moves.{said, asked, starts, puts, numbers}

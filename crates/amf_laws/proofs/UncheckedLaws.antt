@@ -28,7 +28,7 @@ use Rattle.amf_core.specs.declared.link.Link.{Link}
 use Rattle.amf_core.specs.declared.outs.AmfOut.TheVariants.{Send}
 use Rattle.amf_core.specs.declared.subscriber.Subscriber.{Subscriber}
 use Rattle.amf_core.specs.declared.work.Work.{Work}
-use Rattle.amf_laws.proofs.Branching.{per_holds, when_false, when_holds, when_true}
+use Rattle.nas_base.proofs.Branching.{per_holds, when_false, when_holds, when_true}
 use Rattle.amf_laws.proofs.Chains.{link_is_current}
 use Rattle.amf_laws.proofs.DeliveryRows.{sender_is_current}
 use Rattle.amf_laws.proofs.MarkLaws.{fresh_unset}

@@ -10,6 +10,3 @@ pub use crate::action::{Action, PtiCase};
 pub use crate::mm::{collide_amf, collide_mm};
 pub use crate::plain::{permitted_amf, permitted_ue};
 pub use crate::sm::collide_sm;
-
-#[cfg(test)]
-mod tests;

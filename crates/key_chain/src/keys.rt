@@ -1,6 +1,6 @@
 //! The keys of an authentication, from CK and IK down to KAMF, and RES* (TS 33.501 Annex A).
 ghost use Rattle.std.specs.Prelude.{◌≡◌, ◌≤◌, ◌++◌, length};
-ghost use Rattle.key_chain.specs.Keys.{kamf, kausf, kseaf, last_half, res_star};
+ghost use Rattle.key_chain.specs.Keys.{challenge_kamf, kamf, kausf, kseaf, last_half, res_star};
 ghost use Rattle.key_chain.specs.ServingNetwork.{ascii};
 
 use crate::{kdf1, kdf2, kdf3, snn};
@@ -54,6 +54,27 @@ pub fn kamf(kseaf: &[u8; 32], supi: &Supi, abba: &[u8]) -> [u8; 32]
     ensures { result ≡ kamf kseaf.now supi.now abba.now }
 {
     kdf2(kseaf, FOR_KAMF, text_of(&supi.0).as_slice(), abba)
+}
+
+/// The ABBA of this release (TS 33.501 Annex A.7.1).
+pub const ABBA: [u8; 2] = [0, 0];
+
+/// The key KAMF of a challenge of the serving network `plmn`, from the CK and IK that answer it and its AUTN, whose first 6 octets are
+/// SQN XOR AK, for this subscriber and for ABBA, which has at most 65,535 octets (TS 33.501 Annex A).
+pub fn challenge_kamf(
+    ck: &[u8; 16],
+    ik: &[u8; 16],
+    autn: &[u8; 16],
+    plmn: &Plmn,
+    supi: &Supi,
+    abba: &[u8],
+) -> [u8; 32]
+    requires { length abba.now ≤ 65535 }
+    ensures { result ≡ challenge_kamf ck.now ik.now autn.now plmn.now supi.now abba.now }
+{
+    let [a, b, c, d, e, f, ..] = *autn;
+    let kausf = kausf(ck, ik, plmn, &[a, b, c, d, e, f]);
+    kamf(&kseaf(&kausf, plmn), supi, abba)
 }
 
 // CK, then IK.

@@ -13,6 +13,6 @@ mod serving_network;
 
 pub use crate::hmac::hmac256;
 pub use crate::kdf::{kdf1, kdf2, kdf3};
-pub use crate::keys::{kamf, kausf, kseaf, res_star};
+pub use crate::keys::{ABBA, challenge_kamf, kamf, kausf, kseaf, res_star};
 pub use crate::nas::{NasKeys, nas_keys};
 pub use crate::serving_network::snn;

@@ -8,8 +8,6 @@
 mod autn;
 mod functions;
 mod home;
-#[cfg(test)]
-mod home_tests;
 pub mod laws;
 mod octets;
 mod outputs;

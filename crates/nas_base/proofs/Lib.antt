@@ -1,3 +1,4 @@
+pub mod Branching
 pub mod DigitsLemmas
 pub mod FirstsLaws
 pub mod KindLaws

@@ -7,10 +7,6 @@ mod command;
 mod config;
 mod network;
 mod parts;
-#[cfg(test)]
-mod test_network;
-#[cfg(test)]
-mod tests;
 mod ticks;
 mod timers;
 mod turn;

@@ -10,8 +10,6 @@ mod part;
 mod reading;
 mod refusals;
 mod rule;
-#[cfg(test)]
-mod tests;
 mod writing;
 
 pub use crate::applying::apply;

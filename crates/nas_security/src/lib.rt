@@ -19,6 +19,3 @@ pub use crate::counts::accept;
 pub use crate::frames::{Spent, protect};
 pub use crate::sends::{Pass, Send, Sends};
 pub use crate::verdicts::{Verdict, unprotect};
-
-#[cfg(test)]
-mod tests;

@@ -5,7 +5,7 @@ use Rattle.std.specs.List.{list_all}
 use Rattle.std.specs.Str.{bytes_eq}
 use Rattle.nas_base.specs.Branches.{per}
 use Rattle.nas_base.specs.Plmn.{PlmnIdentity}
-use Rattle.key_chain.specs.Keys.{kamf, kausf, kseaf}
+use Rattle.key_chain.specs.Keys.{abba, challenge_kamf}
 use Rattle.milenage.specs.Autn.{vector}
 use Rattle.milenage.specs.declared.vector.Vector.{Vector}
 use Rattle.nas_security.specs.Contexts.{SecurityContext}
@@ -32,13 +32,9 @@ abbrev pub sent_to : End → List Send → List Send → List Send
 sent_to ends.Handset up down = down
 sent_to ends.Network up down = up
 
--- the ABBA that the network sends (TS 33.501 Annex A.7.1)
-abbrev pub abba : List ℕ
-abba = 0 ∷ 0 ∷ []
-
 -- KAMF of a subscriber and a challenge: from K, OPc and SUPI (TS 33.501 Annex A)
 abbrev pub vector_kamf : PlmnIdentity → List ℕ → Vector → List ℕ
-vector_kamf plmn supi v = kamf (kseaf (kausf v.ck v.ik plmn (take 6 v.autn)) plmn) supi abba
+vector_kamf plmn supi v = challenge_kamf v.ck v.ik v.autn plmn supi abba
 
 unfoldable pub net_kamf : PlmnIdentity → Card → Challenge → List ℕ
 net_kamf plmn s c = vector_kamf plmn s.supi (vector s.k s.opc c.rand c.sqn s.field)

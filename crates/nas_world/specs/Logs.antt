@@ -3,7 +3,7 @@ use Rattle.std.specs.Prelude.{ℕ, ◌-◌, Bool, false, List, [], ◌∷◌, �
 use Rattle.std.specs.List.{list_any}
 use Rattle.std.specs.Str.{bytes_eq}
 use Rattle.nas_base.specs.Branches.{per}
-use Rattle.nas_security.specs.declared.challenges.Challenge.{Challenge}
+use Rattle.nas_security.specs.Contexts.{is_challenge}
 use Rattle.nas_security.specs.declared.sends.Pass.{Pass}
 use Rattle.nas_security.specs.declared.sends.Send.{Send}
 use Rattle.nas_world.specs.declared.logs.SentLog.{SentLog}
@@ -25,9 +25,6 @@ also xs None = xs
 also xs (Some x) = xs ++ x ∷ []
 
 -- the same subscriber, challenge and count
-abbrev pub is_challenge : Challenge → Challenge → Bool
-is_challenge one other = one.sqn == other.sqn && bytes_eq one.rand other.rand
-
 abbrev pub is_pass : Pass → Pass → Bool
 is_pass one other = bytes_eq one.supi other.supi && (is_challenge one.challenge other.challenge && one.count == other.count)
 

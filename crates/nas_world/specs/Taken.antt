@@ -5,8 +5,7 @@ use Rattle.std.specs.Str.{bytes_eq}
 use Rattle.indexmap.specs.IndexSet.{IndexSet, contains}
 use Rattle.nas_elements.specs.Algs.{Algorithms}
 use Rattle.key_chain.specs.declared.nas.NasKeys.{NasKeys}
-use Rattle.nas_security.specs.Contexts.{SecurityContext}
-use Rattle.nas_world.specs.Logs.{is_challenge}
+use Rattle.nas_security.specs.Contexts.{SecurityContext, is_challenge}
 use Rattle.nas_world.specs.declared.taken.TakenKey.{TakenKey}
 
 -- the same context: equal in challenge, ngKSI, KAMF, algorithms and both NAS keys

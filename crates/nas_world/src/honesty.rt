@@ -8,15 +8,12 @@ use crate::SentLog;
 use crate::cards::Card;
 use crate::passes::{End, Heard, Passing};
 use crate::sent::Sent;
-use key_chain::{kamf, kausf, kseaf};
+use key_chain::{ABBA, challenge_kamf};
 use milenage::make_vector;
 use nas_base::{Memory, Plmn, Supi};
 use nas_security::{Challenge, Context, Pass, Sends};
 use std::alloc::Global;
 use std::marker::Model;
-
-// The ABBA that the network sends.
-const ABBA: [u8; 2] = [0, 0];
 
 // Sequence numbers are below 2^48.
 const SQN_END: u64 = 0x1_0000_0000_0000;
@@ -259,7 +256,5 @@ fn net_kamf(plmn: &Plmn, card: &Card, challenge: &Challenge) -> [u8; 32]
         challenge.sqn,
         &card.field,
     );
-    let [a, b, c, d, e, f, ..] = v.autn;
-    let kausf = kausf(&v.ck, &v.ik, plmn, &[a, b, c, d, e, f]);
-    kamf(&kseaf(&kausf, plmn), &card.supi, &ABBA)
+    challenge_kamf(&v.ck, &v.ik, &v.autn, plmn, &card.supi, &ABBA)
 }

@@ -19,7 +19,7 @@ use Rattle.ue_mm.specs.State.{is_deregistering}
 use Rattle.ue_mm.specs.Work.{status}
 use Rattle.ue_mm.specs.declared.common.Pending.{Pending}
 use Rattle.ue_mm.specs.declared.work.Work.{Work}
-use Rattle.ue_mm.proofs.Branching.{per_holds, when_holds}
+use Rattle.nas_base.proofs.Branching.{per_holds, when_holds}
 use Rattle.ue_mm.proofs.MessageRows.{taken_is_done}
 use Rattle.ue_mm.proofs.RowTools.{IsBegun, IsDone, answer_is_done, begun_is_done, not_fresh, quiet_is_done, say_is_quiet}
 use Rattle.ue_mm.proofs.Summary.{Summary, onto}

@@ -24,7 +24,7 @@ use Rattle.ue_mm.specs.declared.procedures.Deregistration.{Deregistration}
 use Rattle.ue_mm.specs.declared.procedures.Phase.{Phase}
 use Rattle.ue_mm.specs.declared.procedures.Phase.TheVariants.{Deregistered, Registering, Registered, Serving, Deregistering}
 use Rattle.ue_mm.specs.declared.work.Work.{Work}
-use Rattle.ue_mm.proofs.Branching.{when_holds}
+use Rattle.nas_base.proofs.Branching.{when_holds}
 use Rattle.ue_mm.proofs.RowTools.{IsBegun, IsDone, IsQuiet, begun_is_done, begun_is_quiet, deregistered_is_done, erased_is_done, idle_is_done, request_is_done, request_is_quiet}
 use Rattle.ue_mm.proofs.Summary.{Summary, onto, summed_act, summed_from}
 

@@ -11,7 +11,7 @@ use Rattle.ue_mm.specs.declared.framing.Framed.{Framed}
 use Rattle.ue_mm.specs.declared.outs.UeOut.{UeOut}
 use Rattle.ue_mm.specs.declared.outs.UeOut.TheVariants.{Send, Passed, Took, ToSession, NotForwarded, Abandon, Clear, Keep, Start, Stop}
 use Rattle.ue_mm.specs.declared.procedures.Phase.{Phase}
-use Rattle.ue_mm.proofs.Branching.{per_holds, when_holds}
+use Rattle.nas_base.proofs.Branching.{per_holds, when_holds}
 use Rattle.ue_mm.proofs.Summary.{IsOneAtMost, IsSound, Sent, Summary, one_more, outs_onto, summed, summed_act, summed_out, summed_outs}
 use Rattle.ue_mm.proofs.Summary.Sent.{none, one, more}
 

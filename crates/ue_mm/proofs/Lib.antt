@@ -1,4 +1,3 @@
-pub mod Branching
 pub mod DeliveryRows
 pub mod EventRows
 pub mod Fits

@@ -36,7 +36,7 @@ use Rattle.ue_mm.specs.declared.procedures.Phase.{Phase}
 use Rattle.ue_mm.specs.declared.procedures.Phase.TheVariants.{Deregistered, Registering, Registered, Serving, Deregistering}
 use Rattle.ue_mm.specs.declared.procedures.Registration.{Registration}
 use Rattle.ue_mm.specs.declared.work.Work.{Work}
-use Rattle.ue_mm.proofs.Branching.{per_holds, when_holds}
+use Rattle.nas_base.proofs.Branching.{per_holds, when_holds}
 use Rattle.ue_mm.proofs.RowTools.{IsBegun, IsDone, IsQuiet, answer_is_done, answer_is_quiet, begun_is_done, begun_is_quiet, deregistered_is_done, done_of, erased_is_done, not_fresh, quiet_is_done}
 use Rattle.ue_mm.proofs.Summary.{IsOneAtMost, Summary, onto, summed, summed_from}
 use Rattle.ue_mm.proofs.Summary.Sent.{one}

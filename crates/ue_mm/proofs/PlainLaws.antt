@@ -18,7 +18,7 @@ use Rattle.ue_mm.specs.Step.{ended, started, worked}
 use Rattle.ue_mm.specs.Work.{status}
 use Rattle.ue_mm.specs.declared.inputs.UeInput.TheVariants.{Delivered}
 use Rattle.ue_mm.specs.declared.work.Work.{Work}
-use Rattle.ue_mm.proofs.Branching.{when_false, when_true}
+use Rattle.nas_base.proofs.Branching.{when_false, when_true}
 
 -- the kinds that are permitted are those of the table
 permitted_kind : (m : Mm) → is_plain_allowed m ≡ true → permitted_ue (kind_of m) ≡ true

@@ -42,7 +42,7 @@ use Rattle.ue_mm.specs.declared.framing.Framed.{Framed}
 use Rattle.ue_mm.specs.declared.outs.UeOut.{UeOut}
 use Rattle.ue_mm.specs.declared.outs.UeOut.TheVariants.{Abandon, Clear, Start, Stop}
 use Rattle.ue_mm.specs.declared.work.Work.{Work}
-use Rattle.ue_mm.proofs.Branching.{per_holds, when_false, when_holds}
+use Rattle.nas_base.proofs.Branching.{per_holds, when_false, when_holds}
 
 -- what is said is said plain
 abbrev ArePlain : List Act → Type 0

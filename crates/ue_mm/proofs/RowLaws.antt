@@ -7,7 +7,7 @@ use Rattle.ue_mm.specs.Transport.{carried, ul_transport}
 use Rattle.ue_mm.specs.declared.inputs.UeInput.{UeInput}
 use Rattle.ue_mm.specs.declared.inputs.UeInput.TheVariants.{Command, Delivered, Expired, Dropped, Restart, Carry}
 use Rattle.ue_mm.specs.declared.work.Work.{Work}
-use Rattle.ue_mm.proofs.Branching.{when_holds}
+use Rattle.nas_base.proofs.Branching.{when_holds}
 use Rattle.ue_mm.proofs.DeliveryRows.{delivery_is_done}
 use Rattle.ue_mm.proofs.EventRows.{IsWorked, command_is_worked, expiry_is_done, loss_is_done, restart_is_done}
 use Rattle.ue_mm.proofs.RowTools.{IsBegun, IsDone, answer_is_done, begun_is_done}

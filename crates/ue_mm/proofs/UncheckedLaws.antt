@@ -18,7 +18,7 @@ use Rattle.ue_mm.specs.Step.{ended, started, worked}
 use Rattle.ue_mm.specs.declared.common.Pending.{Pending}
 use Rattle.ue_mm.specs.declared.inputs.UeInput.TheVariants.{Delivered}
 use Rattle.ue_mm.specs.declared.work.Work.{Work}
-use Rattle.ue_mm.proofs.Branching.{per_holds, when_holds}
+use Rattle.nas_base.proofs.Branching.{per_holds, when_holds}
 
 -- a judgement that opens is `Passed`
 opened_is_passed : (v : Verdict × List ℕ) (o : Opened) → opened_by v ≡ Some o

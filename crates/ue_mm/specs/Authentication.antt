@@ -1,9 +1,9 @@
 -- Primary authentication (TS 24.501 clause 5.4.1.3, TS 33.501 clause 6.1.3.2).
-use Rattle.std.specs.Prelude.{ℕ, Bool, false, ◌==◌, ◌&&◌, ◌||◌, List, take, Option, Some, None}
+use Rattle.std.specs.Prelude.{ℕ, Bool, false, ◌==◌, ◌&&◌, ◌||◌, List, Option, Some, None}
 use Rattle.std.specs.Str.{bytes_eq}
 use Rattle.nas_base.specs.Branches.{per, when◌then◌else◌}
 use Rattle.nas_base.specs.declared.mm_cause.TheConstants as cause
-use Rattle.key_chain.specs.Keys.{kamf, kausf, kseaf, res_star}
+use Rattle.key_chain.specs.Keys.{challenge_kamf, res_star}
 use Rattle.milenage.specs.Checking.{checked}
 use Rattle.milenage.specs.declared.autn.AutnAnswer.{AutnAnswer}
 use Rattle.milenage.specs.declared.autn.AutnAnswer.TheVariants.{Accepted, MacFailure, NotFiveG, SynchFailure}
@@ -34,9 +34,9 @@ response res_star w = answer (mm.AuthenticationResponse (record { res_star = Som
 abbrev pub is_ksi_refused : Option SecurityContext → ℕ → Bool
 is_ksi_refused current ksi = ksi == 7 || per current false (λ (context : SecurityContext). context.ksi == ksi)
 
--- KAMF of the challenge: the first six octets of AUTN are SQN XOR AK (TS 33.501 Annex A)
+-- KAMF of the challenge
 abbrev pub kamf_of : HandsetValues → List ℕ → List ℕ → Request → List ℕ
-kamf_of config ck ik r = kamf (kseaf (kausf ck ik config.plmn (take 6 r.autn)) config.plmn) config.supi r.abba
+kamf_of config ck ik r = challenge_kamf ck ik r.autn config.plmn config.supi r.abba
 
 -- The challenge is accepted: its key waits for a command, the request is kept with its answer, and SQN_MS is its sequence number.
 abbrev pub accepted : Request → ℕ → List ℕ → List ℕ → List ℕ → Work → Work

@@ -5,7 +5,7 @@ ghost use Rattle.ue_mm.specs.Authentication.{accepted, answer_again, answered, a
 
 use crate::work::Work;
 use crate::{HandsetConfig, Pending, Stored};
-use key_chain::{kamf, kausf, kseaf, res_star};
+use key_chain::{challenge_kamf, res_star};
 use milenage::{AutnAnswer, check_autn};
 use mm_messages::{AuthenticationFailure, AuthenticationRequest, AuthenticationResponse, Mm};
 use nas_base::mm_cause::{
@@ -59,14 +59,15 @@ impl Request {
     }
 }
 
-// KAMF of the challenge: the first six octets of AUTN are SQN XOR AK.
+// KAMF of the challenge.
 fn kamf_of(config: &HandsetConfig, ck: &[u8; 16], ik: &[u8; 16], request: &Request) -> [u8; 32]
     ensures { result ≡ kamf_of config.now ck.now ik.now request.now }
 {
-    let [a, b, c, d, e, f, ..] = request.autn;
-    let kausf = kausf(ck, ik, &config.plmn, &[a, b, c, d, e, f]);
-    kamf(
-        &kseaf(&kausf, &config.plmn),
+    challenge_kamf(
+        ck,
+        ik,
+        &request.autn,
+        &config.plmn,
         &config.supi,
         request.abba.as_slice(),
     )

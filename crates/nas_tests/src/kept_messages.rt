@@ -1,7 +1,7 @@
 //! Messages that are kept.
 
-use crate::{Challenge, Pass, Send, Sends};
 use nas_base::{Count, Octets, Supi};
+use nas_security::{Challenge, Pass, Send, Sends};
 use std::alloc::Global;
 
 // A message of a handset, protected.

@@ -1,7 +1,7 @@
 //! A home network over the subscriber of set 1 of TS 35.208 clause 4.3.
 ghost use Rattle.std.specs.Prelude.{◌<◌, ◌^◌};
 
-use crate::{Home, HomeEntry, HomeList, HomeListRefusal, HomeRefusal, ResyncRefusal};
+use milenage::{Home, HomeEntry, HomeList, HomeListRefusal, HomeRefusal, ResyncRefusal};
 use nas_base::Supi;
 use std::alloc::Global;
 

@@ -1,7 +1,9 @@
 //! Every cell of the tables, by message types. The cells were written out by hand: T take, D discard, 9 STATUS 98, 3 STATUS 43,
 //! 7 STATUS 47.
 
-use crate::{Action, PtiCase, collide_amf, collide_mm, collide_sm, permitted_amf, permitted_ue};
+use collision_rules::{
+    Action, PtiCase, collide_amf, collide_mm, collide_sm, permitted_amf, permitted_ue,
+};
 use nas_base::{AmfWord, MmKind, MmWord, SmKind, SmWord};
 use std::test::Fail;
 

@@ -1,6 +1,6 @@
 //! A timer whose procedure has ended.
 
-use crate::{Amf, AmfConfig, AmfInput, AmfSubscriber, AmfSubscribers, step};
+use amf_core::{Amf, AmfConfig, AmfInput, AmfSubscriber, AmfSubscribers, step};
 use milenage::{Home, HomeList};
 use nas_base::{AmfWord, Moment, Plmn, Supi};
 use nas_elements::{Nssai, Slice, Timer3};

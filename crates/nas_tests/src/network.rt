@@ -1,9 +1,9 @@
 //! A copy of a network, and the limits of its configuration.
 
-use crate::test_network::{network, supi};
-use crate::{Dnns, Network, is_for_5g, is_pool_size, pool_fits};
+use crate::small_network::{network, supi};
 use nas_base::AmfWord;
 use nas_elements::Dnn;
+use nas_network::{Dnns, Network, is_for_5g, is_pool_size, pool_fits};
 use std::alloc::Global;
 use std::test::Fail;
 

@@ -1,5 +1,5 @@
 //! That the calls answer where there is memory. What they answer is their contracts'.
-use crate::{Rules, apply, read_ops};
+use nas_qos::{Rules, apply, read_ops};
 use std::alloc::Global;
 use std::test::Fail;
 
