@@ -4,6 +4,7 @@ pub mod Ambr
 pub mod Asi
 pub mod Capability
 pub mod Dnn
+pub mod Dnns
 pub mod Guti
 pub mod Identity
 pub mod Layout

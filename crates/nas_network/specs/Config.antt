@@ -14,13 +14,6 @@ use Rattle.milenage.specs.Home.{HomeRecord, is_sqn}
 use Rattle.amf_core.specs.Config.{AmfBeginnings}
 use Rattle.amf_core.specs.declared.config.AmfSubscriber.{AmfSubscriber}
 
--- 1 to 8 names of data networks
-abbrev pub has_dnns_size : List (List ℕ) → Bool
-has_dnns_size dnns = nat_le 1 (length dnns) && nat_le (length dnns) 8
-
-abbrev pub dnns_from : List (List ℕ) → Option (List (List ℕ))
-dnns_from dnns = if has_dnns_size dnns then Some dnns else None
-
 -- a subscriber: SUPI, K, OPc, the AMF field of the vectors, SQN_HE, and what is subscribed
 pub record SubscriberValues : Type 0 where
   pub supi : List ℕ

@@ -1,49 +1,13 @@
 //! What a network is made with.
 ghost use Rattle.std.specs.Prelude.{◌≡◌};
 ghost use Rattle.milenage.specs.Checking.{is_for_5g};
-ghost use Rattle.nas_network.specs.Config.{dnns_from, is_pool_size, is_subscriber, pool_fits};
+ghost use Rattle.nas_network.specs.Config.{is_pool_size, is_subscriber, pool_fits};
 
 use byteorder::{BigEndian, ByteOrder};
 use nas_base::{Plmn, Supi};
-use nas_elements::{Ambr, Dnn, Nssai, Timer3};
+use nas_elements::{Ambr, Dnns, Nssai, Timer3};
 use nas_timers::Durations;
 use std::marker::Model;
-
-/// 1 to 8 names of data networks.
-#[derive(Drop)]
-pub struct Dnns {
-    pub items: Vec<Dnn>,
-}
-
-impl Model for Dnns {
-    ghost use Rattle.std.specs.Prelude.{ℕ, List, ◌≡◌, true};
-    ghost use Rattle.nas_network.specs.Config.{has_dnns_size};
-
-    ghost Value = { List (List ℕ) };
-
-    ghost view = { λ d. d.items.items };
-
-    ghost invariant = { λ d. has_dnns_size d.items.items ≡ true };
-}
-
-impl Dnns {
-    /// These names, or None exactly where they are none or more than 8.
-    pub fn from_items(items: Vec<Dnn>) -> Option<Dnns>
-        ensures { result ≡ dnns_from items.items }
-    {
-        if items.is_empty() || items.len() > 8 {
-            return None;
-        }
-        Some(Dnns { items })
-    }
-
-    /// The names in order.
-    pub fn as_slice(&self) -> &[Dnn]
-        ensures { result.now ≡ self.now }
-    {
-        self.items.as_slice()
-    }
-}
 
 /// A subscriber: the SUPI, K and OPc, the AMF field of the vectors, whose first bit is 1, SQN_HE below 2^48, and the data networks and
 /// slices that are subscribed (TS 33.501 clause 6.1.3.2, TS 33.102 clause 6.3.2, TS 23.501 clause 5.15.3).

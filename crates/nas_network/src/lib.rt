@@ -13,6 +13,6 @@ mod turn;
 
 pub use crate::command::{NetCommand, NetDelivery, NetRefusal};
 pub use crate::config::{
-    Dnns, NetConfig, Subscriber, Subscribers, is_for_5g, is_pool_size, is_subscriber, pool_fits,
+    NetConfig, Subscriber, Subscribers, is_for_5g, is_pool_size, is_subscriber, pool_fits,
 };
 pub use crate::network::Network;

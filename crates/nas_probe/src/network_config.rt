@@ -9,9 +9,9 @@ ghost use Rattle.nas_network.specs.Config.{are_subscribers, is_subscriber};
 use crate::handset_calls::sequence_number;
 use crate::words::{Refusal, block, exactly, network, octet, octets, quantity, subscriber};
 use nas_base::{Moment, Plmn, Supi};
-use nas_elements::{Ambr, Dnn, Nssai, Timer3};
+use nas_elements::{Ambr, Dnn, Dnns, Nssai, Timer3};
 use nas_network::{
-    Dnns, NetConfig, Subscriber, Subscribers, is_for_5g, is_pool_size, is_subscriber, pool_fits,
+    NetConfig, Subscriber, Subscribers, is_for_5g, is_pool_size, is_subscriber, pool_fits,
 };
 use nas_timers::Durations;
 use std::alloc::Global;

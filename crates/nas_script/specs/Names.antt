@@ -5,7 +5,7 @@ use Rattle.std.specs.List.{list_all}
 use Rattle.std.specs.Option.{option_and_then}
 use Rattle.toml.specs.Data.{Data, as_str}
 use Rattle.nas_elements.specs.Dnn.{dnn_in}
-use Rattle.nas_network.specs.Config.{dnns_from}
+use Rattle.nas_elements.specs.Dnns.{dnns_from}
 use Rattle.nas_script.specs.Addresses.{before_dot}
 use Rattle.nas_script.specs.Document.{all_read, entries_at}
 

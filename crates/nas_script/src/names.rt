@@ -2,7 +2,7 @@
 ghost use Rattle.std.specs.Prelude.{◌≡◌, map, IfOk};
 ghost use Rattle.std.specs.List.{list_all};
 ghost use Rattle.std.specs.Option.{option_and_then};
-ghost use Rattle.nas_network.specs.Config.{dnns_from};
+ghost use Rattle.nas_elements.specs.Dnns.{dnns_from};
 ghost use Rattle.nas_script.specs.Document.{all_read};
 ghost use Rattle.nas_script.specs.Names.{is_of_names, name_in, name_of, names_at};
 ghost use Rattle.toml.specs.View.{view};
@@ -11,8 +11,7 @@ use crate::addresses::before_dot;
 use crate::document::entries_of;
 use arrayvec::ArrayVec;
 use nas_base::Memory;
-use nas_elements::Dnn;
-use nas_network::Dnns;
+use nas_elements::{Dnn, Dnns};
 use std::alloc::Global;
 use toml::Value;
 

@@ -3,8 +3,8 @@ ghost use Rattle.std.specs.Prelude.{◌≡◌, true};
 ghost use Rattle.nas_network.specs.Config.{are_subscribers};
 
 use nas_base::{Plmn, Supi};
-use nas_elements::{Ambr, Dnn, Nssai, Slice, Timer3};
-use nas_network::{Dnns, NetConfig, Network, Subscriber, Subscribers, pool_fits};
+use nas_elements::{Ambr, Dnn, Dnns, Nssai, Slice, Timer3};
+use nas_network::{NetConfig, Network, Subscriber, Subscribers, pool_fits};
 use nas_timers::Durations;
 use std::alloc::Global;
 use std::test::Fail;
