@@ -1,0 +1,2 @@
+-- What taking and giving say together.
+use Rattle.std.specs.Prelude.{◌≡◌}

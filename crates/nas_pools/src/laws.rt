@@ -1,0 +1,1 @@
+//! What taking and giving back say together. These functions do nothing: their contracts are the laws.

@@ -1,0 +1,127 @@
+//! Which numbers below a size are taken.
+ghost use Rattle.std.specs.Prelude.{◌≡◌, ◌<◌, ◌≤◌, [], true, IfOk};
+ghost use Rattle.nas_pools.specs.Numbers.{is_in, least_free, with_number, without};
+
+use crate::bits::{WIDTH, clear, first_clear, is_marked, mark};
+use nas_base::Memory;
+use std::alloc::Global;
+use std::marker::Model;
+
+// The numbers below a size that are taken: a bit for each number, and a bit for each word of these, which is 1 where the word has
+// no bit that is 0. So the least free number is found in two words, behind a walk over one in 4,096 of the numbers.
+#[derive(Drop)]
+pub struct Numbers {
+    size: usize,
+    words: Vec<u64>,
+    full: Vec<u64>,
+}
+
+impl Model for Numbers {
+    ghost use Rattle.nas_pools.specs.Bits.{AreBits, is_marked, passing};
+    ghost use Rattle.nas_pools.specs.Numbers.{NumbersParts};
+
+    ghost Value = { NumbersParts };
+
+    ghost view = { λ n. record { size = n.size; taken = passing (is_marked n.words.items) 0 n.size } };
+
+    ghost invariant = { λ n. AreBits n.size n.words.items n.full.items };
+}
+
+impl Numbers {
+    // None is taken.
+    pub fn new(alloc: Global, size: usize) -> Result<Numbers, Memory>
+        requires { size ≤ 65536 }
+        ensures { IfOk result (λ numbers. numbers ≡ record { size = size; taken = [] }) }
+    {
+        let words = size.div_ceil(WIDTH);
+        Ok(Numbers {
+            size,
+            words: zeros(alloc, words)?,
+            full: zeros(alloc, words.div_ceil(WIDTH))?,
+        })
+    }
+
+    // An equal value, or `Memory`.
+    pub fn copy(&self, alloc: Global) -> Result<Numbers, Memory>
+        ensures { IfOk result (λ copy. copy ≡ self.now) }
+    {
+        Ok(Numbers {
+            size: self.size,
+            words: same(alloc, self.words.as_slice())?,
+            full: same(alloc, self.full.as_slice())?,
+        })
+    }
+
+    // How many numbers there are.
+    pub fn size(&self) -> usize
+        ensures value { result ≡ self.now.size }
+        ensures limit { result ≤ 65536 }
+    {
+        self.size
+    }
+
+    // The least number that isn't taken.
+    pub fn least_free(&self) -> Option<usize>
+        ensures { result ≡ least_free self.now.size self.now.taken }
+    {
+        let word = first_clear(self.full.as_slice())?;
+        let bits = self.words.as_slice().get(word)?;
+        let number = WIDTH * word + bits.trailing_ones() as usize;
+        if number < self.size {
+            Some(number)
+        } else {
+            None
+        }
+    }
+
+    // Whether a number is taken.
+    pub fn has(&self, number: usize) -> bool
+        ensures { result ≡ is_in number self.now.taken }
+    {
+        number < self.size && is_marked(self.words.as_slice(), number)
+    }
+
+    // Takes a number; all others stay.
+    pub fn take(&mut self, number: usize)
+        requires { number < self.old.size }
+        ensures { self.new ≡ record self.old { taken = with_number number self.old.taken } }
+    {
+        let word = number / WIDTH;
+        mark(self.words.as_mut_slice(), number);
+        if self.words[word] == u64::MAX {
+            mark(self.full.as_mut_slice(), word);
+        }
+    }
+
+    // Frees a number; all others stay.
+    pub fn give(&mut self, number: usize)
+        requires { number < self.old.size }
+        ensures { self.new ≡ record self.old { taken = without number self.old.taken } }
+    {
+        clear(self.words.as_mut_slice(), number);
+        clear(self.full.as_mut_slice(), number / WIDTH);
+    }
+}
+
+// So many words of which no bit is 1.
+fn zeros(alloc: Global, count: usize) -> Result<Vec<u64>, Memory>
+    ensures { IfOk result (λ words. words.items ≡ replicate count 0) }
+{
+    let mut words = Vec::new(alloc);
+    for _ in 0..count {
+        if words.push(0).is_err() {
+            return Err(Memory);
+        }
+    }
+    Ok(words)
+}
+
+// These words once more.
+fn same(alloc: Global, words: &[u64]) -> Result<Vec<u64>, Memory>
+    ensures { IfOk result (λ copy. copy.items ≡ words.now) }
+{
+    match words.to_vec(alloc) {
+        Ok(copy) => Ok(copy),
+        Err(_) => Err(Memory),
+    }
+}
