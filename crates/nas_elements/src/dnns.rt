@@ -56,12 +56,21 @@ impl Dnns {
     pub fn copy(&self, alloc: Global) -> Result<Dnns, Memory>
         ensures { IfOk result (λ copy. copy ≡ self.now) }
     {
-        let mut items = Vec::new(alloc);
-        for name in self.as_slice() {
-            if items.push(name.copy()).is_err() {
-                return Err(Memory);
-            }
-        }
+        let _ = &self.items;
+        let items = copied(alloc, self.as_slice())?;
         Ok(Dnns { items })
     }
+}
+
+// Equal names.
+fn copied(alloc: Global, names: &[Dnn]) -> Result<Vec<Dnn>, Memory>
+    ensures { IfOk result (λ copies. copies.items ≡ names.now) }
+{
+    let mut copies = Vec::new(alloc);
+    for name in names {
+        if copies.push(name.copy()).is_err() {
+            return Err(Memory);
+        }
+    }
+    Ok(copies)
 }
