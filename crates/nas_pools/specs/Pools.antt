@@ -46,13 +46,25 @@ with_taken n f = record f { taken = with_number n f.taken }
 abbrev pub without_taken : ℕ → FamilyParts → FamilyParts
 without_taken n f = record f { taken = without n f.taken }
 
--- the number that has these octets
-abbrev pub number_of : ℕ → List ℕ → FamilyParts → ℕ
-number_of width octets f = big_number width octets - f.first
+-- the address that is this number is taken
+abbrev pub is_taken_at : ℕ → FamilyParts → Bool
+is_taken_at address f = nat_le f.first address && is_in (address - f.first) f.taken
 
--- these octets are taken
+-- which of the family's it is, where it is taken
+abbrev pub taken_at : ℕ → FamilyParts → Option ℕ
+taken_at address f = if is_taken_at address f then Some (address - f.first) else None
+
+-- the same by its octets
 abbrev pub has_part : ℕ → List ℕ → FamilyParts → Bool
-has_part width octets f = nat_le f.first (big_number width octets) && is_in (number_of width octets f) f.taken
+has_part width octets f = is_taken_at (big_number width octets) f
+
+abbrev pub taken_number : ℕ → List ℕ → FamilyParts → Option ℕ
+taken_number width octets f = taken_at (big_number width octets) f
+
+-- the family after a number is given back, or where there is none to give
+abbrev pub with_given : Option ℕ → FamilyParts → FamilyParts
+with_given None f = f
+with_given (Some n) f = without_taken n f
 
 -- the octets of the least number that is free, and the family after it is taken
 abbrev pub take_least : ℕ → FamilyParts → Option (List ℕ × FamilyParts)
@@ -60,7 +72,7 @@ take_least width f = option_map (λ n. (octets_of width f n, with_taken n f)) (l
 
 -- the family after these octets are given back, where they are taken
 abbrev pub give_part : ℕ → List ℕ → FamilyParts → Option FamilyParts
-give_part width octets f = if has_part width octets f then Some (without_taken (number_of width octets f) f) else None
+give_part width octets f = option_map (λ n. without_taken n f) (taken_number width octets f)
 
 -- the least free address, and the pools after it is taken; there is none where a family has no free one
 abbrev pub take_v4 : PoolsParts → Option (Address × PoolsParts)
@@ -92,11 +104,20 @@ give_of (V4V6 v6 v4) p =
 abbrev pub freed : Address → PoolsParts → PoolsParts
 freed address p = unwrap_or (give_of address p) p
 
+-- the address that would be taken next if these numbers were given back
+abbrev pub next_with : Option ℕ → Option ℕ → ℕ → PoolsParts → Option Address
+next_with four six kind p = next_of kind (record { v4 = with_given four p.v4; v6 = with_given six p.v6 })
+
 -- each part of an address is taken
 abbrev pub has_address : Address → PoolsParts → Bool
 has_address (V4 v4) p = has_part 4 v4 p.v4
 has_address (V6 v6) p = has_part 8 v6 p.v6
 has_address (V4V6 v6 v4) p = has_part 4 v4 p.v4 && has_part 8 v6 p.v6
+
+-- what was taken of these
+abbrev pub Taken : Option (Address × PoolsParts) → Option Address → PoolsParts → PoolsParts → Type 0
+Taken taking None old new = (taking ≡ None) × (new ≡ old)
+Taken taking (Some address) old new = taking ≡ Some (address, new)
 
 -- what was taken, or that a family was empty, and then nothing
 abbrev pub Takes : ℕ → Result Address Empty → PoolsParts → PoolsParts → Type 0

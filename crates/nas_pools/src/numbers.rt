@@ -1,8 +1,8 @@
 //! Which numbers below a size are taken.
-ghost use Rattle.std.specs.Prelude.{◌≡◌, ◌<◌, ◌≤◌, [], true, IfOk};
-ghost use Rattle.nas_pools.specs.Numbers.{is_in, least_free, with_number, without};
+ghost use Rattle.std.specs.Prelude.{◌≡◌, ◌<◌, ◌≤◌, [], true, IfOk, IfSome, replicate};
+ghost use Rattle.nas_pools.specs.Numbers.{is_in, least_free, rise, with_number, without};
 
-use crate::bits::{WIDTH, clear, first_clear, is_marked, mark};
+use crate::bits::{WIDTH, clear, first_free, is_full, is_marked, mark};
 use nas_base::Memory;
 use std::alloc::Global;
 use std::marker::Model;
@@ -61,22 +61,30 @@ impl Numbers {
     }
 
     // The least number that isn't taken.
+    #[tactic(auto, using(crate::proofs::NumberLemmas::least_passing))]
     pub fn least_free(&self) -> Option<usize>
-        ensures { result ≡ least_free self.now.size self.now.taken }
+        ensures value { result ≡ least_free self.now.size self.now.taken }
+        ensures below { IfSome result (λ n. n < self.now.size) }
     {
-        let word = first_clear(self.full.as_slice())?;
-        let bits = self.words.as_slice().get(word)?;
-        let number = WIDTH * word + bits.trailing_ones() as usize;
-        if number < self.size {
-            Some(number)
-        } else {
-            None
+        first_free(self.size, self.words.as_slice(), self.full.as_slice())
+    }
+
+    // The least number that wouldn't be taken if this one weren't.
+    pub fn least_without(&self, number: usize) -> Option<usize>
+        requires { number < self.now.size }
+        ensures value { result ≡ least_free self.now.size (without number self.now.taken) }
+        ensures below { IfSome result (λ n. n < self.now.size) }
+    {
+        match self.least_free() {
+            Some(least) if least < number => Some(least),
+            _ => Some(number),
         }
     }
 
     // Whether a number is taken.
     pub fn has(&self, number: usize) -> bool
-        ensures { result ≡ is_in number self.now.taken }
+        ensures value { result ≡ is_in number self.now.taken }
+        ensures below { result ≡ true → number < self.now.size }
     {
         number < self.size && is_marked(self.words.as_slice(), number)
     }
@@ -87,10 +95,17 @@ impl Numbers {
         ensures { self.new ≡ record self.old { taken = with_number number self.old.taken } }
     {
         let word = number / WIDTH;
-        mark(self.words.as_mut_slice(), number);
-        if self.words[word] == u64::MAX {
-            mark(self.full.as_mut_slice(), word);
+        mark(&mut self.words, number);
+        if is_full(self.words.as_slice(), word) {
+            mark(&mut self.full, word);
         }
+    }
+
+    // The numbers that are taken rise, each below the size.
+    pub fn rise(&self)
+        ensures { rise 0 self.now.size self.now.taken ≡ true }
+    {
+        let _ = &self.words;
     }
 
     // Frees a number; all others stay.
@@ -98,8 +113,8 @@ impl Numbers {
         requires { number < self.old.size }
         ensures { self.new ≡ record self.old { taken = without number self.old.taken } }
     {
-        clear(self.words.as_mut_slice(), number);
-        clear(self.full.as_mut_slice(), number / WIDTH);
+        clear(&mut self.words, number);
+        clear(&mut self.full, number / WIDTH);
     }
 }
 
@@ -107,13 +122,10 @@ impl Numbers {
 fn zeros(alloc: Global, count: usize) -> Result<Vec<u64>, Memory>
     ensures { IfOk result (λ words. words.items ≡ replicate count 0) }
 {
-    let mut words = Vec::new(alloc);
-    for _ in 0..count {
-        if words.push(0).is_err() {
-            return Err(Memory);
-        }
+    match vec![in alloc; 0; count] {
+        Ok(words) => Ok(words),
+        Err(_) => Err(Memory),
     }
-    Ok(words)
 }
 
 // These words once more.
