@@ -10,7 +10,7 @@ use Rattle.std.proofs.lemmas.Nat.{le_or_l, or_lt}
 use Rattle.std.proofs.lemmas.Nat.Bits.{bit_at-lt, bit_at-trailing_ones, bit_at_clear_other, bit_at_clear_same, bit_at_ones, bit_at_set_other, bit_at_set_same}
 use Rattle.nas_pools.specs.Bits.{cleared, is_full, is_marked, marked}
 use Rattle.nas_pools.specs.Numbers.{first_failing}
-use Rattle.nas_pools.proofs.NumberLemmas.{Changed, failing_found, failing_none}
+use Rattle.nas_pools.proofs.FailingLemmas.{Changed, failing_found, failing_none}
 
 -- two numbers of one word differ by their bits
 bits_apart : (m n : ℕ) → m ≢ n → m / 64 ≡ n / 64 → m % 64 ≢ n % 64

@@ -1,5 +1,7 @@
 pub mod BitLemmas
+pub mod FailingLemmas
 pub mod FreshLemmas
-pub mod NumberLemmas
+pub mod ListLemmas
+pub mod PassingLemmas
 pub mod SummaryLemmas
 pub mod ViewLemmas

@@ -7,7 +7,7 @@ use Rattle.std.proofs.lemmas.Bool.Decides.{nat_tests}
 use Rattle.nas_pools.specs.Bits.{AreBits, cleared, is_full, is_marked, marked}
 use Rattle.nas_pools.specs.Numbers.{first_failing}
 use Rattle.nas_pools.proofs.BitLemmas.{AllMarked, all_marked_next, cleared_not_full, cleared_other, first_zero, full_stays, length-cleared, length-marked, marked_other, marked_changed, cleared_changed, none_marked}
-use Rattle.nas_pools.proofs.NumberLemmas.{FoundAt, all_pass_from, failing_found, failing_none, found_from}
+use Rattle.nas_pools.proofs.FailingLemmas.{FoundAt, all_pass_from, failing_found, failing_none, found_from}
 
 full_word : (words : List ℕ) (w : ℕ) → is_full (slice_index words w) ≡ true → slice_index words w ≡ 2 ^ 64 - 1
 full_word words w h = grind (arith, nat_tests)

@@ -4,7 +4,7 @@ use Rattle.nas_pools.specs.Bits.{cleared, is_marked, marked, passing}
 use Rattle.nas_pools.specs.Numbers.{NumbersParts, is_in, with_number, without}
 use Rattle.nas_pools.proofs.BitLemmas.{cleared_changed, marked_changed}
 use Rattle.nas_pools.proofs.FreshLemmas.{none_pass}
-use Rattle.nas_pools.proofs.NumberLemmas.{in_above, with_passing, without_passing}
+use Rattle.nas_pools.proofs.PassingLemmas.{in_above, with_passing, without_passing}
 
 abbrev pub shown : ℕ → List ℕ → NumbersParts
 shown size taken = record { size = size; taken = taken }

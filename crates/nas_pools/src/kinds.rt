@@ -1,5 +1,6 @@
 //! Which addresses data networks have.
 ghost use Rattle.std.specs.Prelude.{◌≡◌, IfOk};
+ghost use Rattle.std.specs.Str.{bytes_eq};
 ghost use Rattle.nas_pools.specs.Kinds.{are_distinct, is_listed, kinds_from, kinds_of, kinds_unlisted};
 
 use nas_base::Memory;
@@ -98,14 +99,22 @@ impl DnnKinds {
     pub fn copy(&self, alloc: Global) -> Result<DnnKinds, Memory>
         ensures { IfOk result (λ copy. copy ≡ self.now) }
     {
-        let mut items = Vec::new(alloc);
-        for kind in self.as_slice() {
-            if items.push(kind.copy()).is_err() {
-                return Err(Memory);
-            }
-        }
+        let items = copies(alloc, self.items.as_slice())?;
         Ok(DnnKinds { items })
     }
+}
+
+// These kinds once more.
+fn copies(alloc: Global, kinds: &[DnnKind]) -> Result<Vec<DnnKind>, Memory>
+    ensures { IfOk result (λ copies. copies.items ≡ kinds.now) }
+{
+    let mut copies = Vec::new(alloc);
+    for kind in kinds {
+        if copies.push(kind.copy()).is_err() {
+            return Err(Memory);
+        }
+    }
+    Ok(copies)
 }
 
 // Whether a data network is one of these.

@@ -61,7 +61,7 @@ impl Numbers {
     }
 
     // The least number that isn't taken.
-    #[tactic(auto, using(crate::proofs::NumberLemmas::least_passing))]
+    #[tactic(auto, using(crate::proofs::PassingLemmas::least_passing))]
     pub fn least_free(&self) -> Option<usize>
         ensures value { result ≡ least_free self.now.size self.now.taken }
         ensures below { IfSome result (λ n. n < self.now.size) }

@@ -51,7 +51,7 @@ impl Pools {
     ) -> Result<Pools, Memory>
         requires size { is_pool_size size4 ≡ true }
         requires end { pool_fits first4 size4 ≡ true }
-        ensures { IfOk result (λ pools. pools ≡ unused_pools first4.entry size4 pool6) }
+        ensures { IfOk result (λ pools. pools ≡ unused_pools first4 size4 pool6) }
     {
         let first = u64::from(BigEndian::read_u32(&first4));
         let v4 = Family::new(alloc, first, size4 as usize)?;
