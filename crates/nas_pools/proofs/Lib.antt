@@ -1,7 +1,13 @@
 pub mod BitLemmas
+pub mod EmptyLaws
 pub mod FailingLemmas
+pub mod FamilyLemmas
 pub mod FreshLemmas
 pub mod ListLemmas
+pub mod OneLaws
 pub mod PassingLemmas
+pub mod RiseLemmas
 pub mod SummaryLemmas
+pub mod TakingLemmas
 pub mod ViewLemmas
+pub mod WholeLaws

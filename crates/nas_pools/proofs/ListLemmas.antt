@@ -1,9 +1,9 @@
 -- Lists of numbers: what is in one after a number is put in or left out.
 use Rattle.std.proofs.Common.{◌≡◌, ◌≢◌, ◌<◌, ◌≤◌, ℕ, suc, Bool, true, false, List, [], ◌∷◌, arith, refl, ap, sym, ◌∙◌}
-use Rattle.std.specs.Prelude.{nat_lt, nat_le, ◌==◌, ◌&&◌, ◌||◌, Some, None}
-use Rattle.std.proofs.lemmas.Bool.{and_from, and_parts, eq-eqb, ne_eqb}
+use Rattle.std.specs.Prelude.{nat_lt, ◌==◌, Some, None}
+use Rattle.std.proofs.lemmas.Bool.{eq-eqb, ne_eqb}
 use Rattle.std.proofs.lemmas.Bool.Decides.{nat_tests}
-use Rattle.nas_pools.specs.Numbers.{is_in, least_free, rise, with_number, without}
+use Rattle.nas_pools.specs.Numbers.{is_in, least_free, with_number, without}
 use Rattle.nas_pools.proofs.FailingLemmas.{Changed, FoundAt, all_pass_from, failing_before, failing_now, found_from}
 
 without_same_by : (n m : ℕ) (ms : List ℕ) (b : Bool) → (m == n) ≡ b → is_in n (without n ms) ≡ false → is_in n (without n (m ∷ ms)) ≡ false
@@ -69,3 +69,23 @@ pub least_alone : (size n : ℕ) (ms : List ℕ) → least_free size ms ≡ None
 least_alone size n ms is below =
     failing_now (λ k. is_in k ms) (λ k. is_in k (without n ms)) size n (left_out n ms) below
     (λ k under. all_pass_from (λ k. is_in k ms) 0 size is k (omega arith) (omega arith))
+
+without_absent_by : (n m : ℕ) (ms : List ℕ) (b : Bool) → (m == n) ≡ b → is_in n (m ∷ ms) ≡ false → (is_in n ms ≡ false → without n ms ≡ ms) → without n (m ∷ ms) ≡ m ∷ ms
+without_absent_by n m ms true is absent rest = let there : true ≡ false = rw is at absent in absurd (cc)
+without_absent_by n m ms false is absent rest = rw is (ap (λ (ks : List ℕ). m ∷ ks) (rest (rw is at absent)))
+
+-- a number that isn't there leaves all
+pub without_absent : (n : ℕ) (ms : List ℕ) → is_in n ms ≡ false → without n ms ≡ ms
+without_absent n [] absent = refl
+without_absent n (m ∷ ms) absent = without_absent_by n m ms (m == n) refl absent (without_absent n ms)
+
+without_with_by : (n m : ℕ) (ms : List ℕ) (b : Bool) → nat_lt m n ≡ b → without n (with_number n ms) ≡ without n ms → without n (with_number n (m ∷ ms)) ≡ without n (m ∷ ms)
+without_with_by n m ms true is rest = let other : (m == n) ≡ false = ne_eqb m n (λ e. grind (arith, nat_tests)) in rw (is, other, rest) refl
+without_with_by n m ms false is rest =
+    let same : (n == n) ≡ true = eq-eqb n n refl in
+    rw (is, same) (without_absent n (without n (m ∷ ms)) (in_without_same n (m ∷ ms)))
+
+-- what was put in is left out again
+pub without_with : (n : ℕ) (ms : List ℕ) → without n (with_number n ms) ≡ without n ms
+without_with n [] = let same : (n == n) ≡ true = eq-eqb n n refl in rw same refl
+without_with n (m ∷ ms) = without_with_by n m ms (nat_lt m n) refl (without_with n ms)
