@@ -1,6 +1,6 @@
 -- The first number that fails a test.
 use Rattle.std.proofs.Common.{◌≡◌, ◌≢◌, ◌<◌, ◌≤◌, ◌+◌, ℕ, zero, suc, Bool, true, false, arith, refl, sym, ◌∙◌}
-use Rattle.std.specs.Prelude.{nat_lt, ◌==◌, IfSome, Option, Some, None}
+use Rattle.std.specs.Prelude.{◌==◌, IfSome, Option, Some, None}
 use Rattle.std.proofs.lemmas.Bool.Decides.{nat_tests}
 use Rattle.nas_pools.specs.Numbers.{first_failing}
 

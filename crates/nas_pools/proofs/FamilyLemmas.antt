@@ -1,14 +1,14 @@
 -- A number of a family that is taken, and one that is given back.
-use Rattle.std.proofs.Common.{◌≡◌, ◌≢◌, ◌<◌, ◌≤◌, ◌+◌, ◌-◌, ◌^◌, ℕ, Bool, true, false, not, List, [], ◌∷◌, ◌++◌, arith, refl, ap, sym, subst, ◌∙◌}
+use Rattle.std.proofs.Common.{◌≡◌, ◌≢◌, ◌<◌, ◌≤◌, ◌+◌, ◌-◌, ◌^◌, ℕ, Bool, true, false, not, List, [], arith, refl, ap, sym, subst, ◌∙◌}
 use Rattle.std.specs.Prelude.{nat_le, ◌==◌, ◌&&◌, ◌||◌, Option, Some, None, option_map, if◌then◌else◌}
-use Rattle.std.proofs.lemmas.Bool.{and_parts, eq-eqb, ne_eqb}
+use Rattle.std.proofs.lemmas.Bool.{and_parts, eq-eqb}
 use Rattle.std.proofs.lemmas.Bool.Decides.{nat_tests}
 use Rattle.std.proofs.lemmas.List.{append-nil}
 use Rattle.std.proofs.lemmas.Option.{same_Some, some_pair_parts}
 use Rattle.byteorder.specs.Endian.{big_bytes, big_number}
 use Rattle.byteorder.specs.Numbers.{big_number-reads_back}
 use Rattle.nas_pools.specs.Numbers.{is_in, least_free, with_number, without}
-use Rattle.nas_pools.specs.Pools.{FamilyParts, give_part, is_taken_at, octets_of, take_least, taken_at, with_taken, without_taken}
+use Rattle.nas_pools.specs.Pools.{FamilyParts, give_part, is_taken_at, octets_of, take_least, with_taken, without_taken}
 use Rattle.nas_pools.proofs.FailingLemmas.{FoundAt, found_from}
 use Rattle.nas_pools.proofs.ListLemmas.{in_with_other, in_with_same, in_without_other, in_without_same, without_absent, without_with}
 

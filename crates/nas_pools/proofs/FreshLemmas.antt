@@ -1,12 +1,11 @@
 -- Words of which no bit is 1.
-use Rattle.std.proofs.Common.{◌≡◌, ◌<◌, ◌≤◌, ◌+◌, ◌*◌, ◌/◌, ◌%◌, ◌^◌, ℕ, zero, suc, Bool, true, false, List, [], length, replicate, min, arith, refl, sym, ◌∙◌}
-use Rattle.std.specs.Prelude.{nat_lt, ◌==◌, slice_index}
-use Rattle.std.proofs.lemmas.Bool.{ne_eqb}
+use Rattle.std.proofs.Common.{◌≡◌, ◌<◌, ◌≤◌, ◌+◌, ◌*◌, ◌/◌, ◌%◌, ℕ, zero, suc, Bool, true, false, [], length, replicate, min, arith, refl}
+use Rattle.std.specs.Prelude.{nat_lt, slice_index}
 use Rattle.std.proofs.lemmas.Bool.Decides.{nat_tests}
 use Rattle.std.proofs.lemmas.Grind.{div_ceil_times}
 use Rattle.std.proofs.lemmas.List.{get_or-replicate, get_or_past, length-replicate}
 use Rattle.std.proofs.lemmas.Nat.Bits.{bit_at-zero}
-use Rattle.nas_pools.specs.Bits.{AreBits, is_full, is_marked, passing}
+use Rattle.nas_pools.specs.Bits.{AreBits, is_marked, passing}
 
 zero_word_by : (count w : ℕ) (b : Bool) → nat_lt w count ≡ b → slice_index (replicate count 0) w ≡ 0
 zero_word_by count w true is = let h : w < count = grind (arith, nat_tests) in get_or-replicate count w 0 0 h

@@ -1,3 +1,4 @@
+pub mod AfterLemmas
 pub mod BitLemmas
 pub mod EmptyLaws
 pub mod FailingLemmas

@@ -1,9 +1,8 @@
 -- What taking an address, and giving one back, does to each other address.
-use Rattle.std.proofs.Common.{◌≡◌, ◌<◌, ◌≤◌, ◌+◌, ℕ, Bool, true, false, not, List, [], ◌∷◌, refl, ap, sym, subst, ◌∙◌}
-use Rattle.std.specs.Prelude.{◌==◌, ◌&&◌, ◌||◌, Option, Some, None}
-use Rattle.nas_elements.specs.declared.address.Address.{Address}
-use Rattle.nas_pools.specs.PoolLaws.{Giving, GivesOne, Taking, TakesFree, TakesLeast, TakesOne, is_number, v4_part, v6_part}
-use Rattle.nas_pools.specs.Pools.{FamilyParts, PoolsParts, is_taken_at}
+use Rattle.std.proofs.Common.{◌≡◌, ◌<◌, ◌≤◌, ℕ, true, false, not, List, ap}
+use Rattle.std.specs.Prelude.{◌&&◌, ◌||◌, Option, Some, None}
+use Rattle.nas_pools.specs.PoolLaws.{GivesOne, TakesFree, TakesLeast, TakesOne, is_number, v4_part, v6_part}
+use Rattle.nas_pools.specs.Pools.{FamilyParts, is_taken_at}
 use Rattle.nas_pools.proofs.FamilyLemmas.{gave_one, took_free, took_least, took_one}
 use Rattle.nas_pools.proofs.TakingLemmas.{GavePart, TookPart, gave_parts, took_parts}
 

@@ -1,5 +1,5 @@
 -- What bits of words show: the numbers below the size whose bits are 1.
-use Rattle.std.proofs.Common.{◌≡◌, ◌<◌, ◌≤◌, ◌/◌, ℕ, Bool, true, false, List, [], length, replicate, arith, refl, ap, sym}
+use Rattle.std.proofs.Common.{◌≡◌, ◌<◌, ◌≤◌, ◌/◌, ℕ, false, List, [], length, replicate, arith, ap, sym}
 use Rattle.nas_pools.specs.Bits.{cleared, is_marked, marked, passing}
 use Rattle.nas_pools.specs.Numbers.{NumbersParts, is_in, with_number, without}
 use Rattle.nas_pools.proofs.BitLemmas.{cleared_changed, marked_changed}

@@ -1,15 +1,14 @@
 -- What taking and giving back say of whole addresses and pools.
-use Rattle.std.proofs.Common.{◌≡◌, ◌<◌, ◌≤◌, ◌+◌, ◌-◌, ◌^◌, ℕ, Bool, true, false, not, List, [], ◌∷◌, arith, refl, ap, sym, subst, ◌∙◌}
-use Rattle.std.specs.Prelude.{◌==◌, ◌&&◌, Option, Some, None, is_some, option_map, if◌then◌else◌}
-use Rattle.std.specs.Option.{option_and_then}
+use Rattle.std.proofs.Common.{◌≡◌, ◌-◌, ℕ, Bool, true, false, List, [], ◌∷◌, arith, refl, ap, sym, subst}
+use Rattle.std.specs.Prelude.{◌==◌, ◌&&◌, Option, Some, None, is_some}
 use Rattle.std.proofs.lemmas.Bool.{and_parts}
 use Rattle.std.proofs.lemmas.Bool.Decides.{nat_tests}
 use Rattle.byteorder.specs.Endian.{big_number}
 use Rattle.nas_elements.specs.declared.address.Address.{Address}
 use Rattle.nas_elements.specs.declared.address.Address.TheVariants.{V4, V6, V4V6}
-use Rattle.nas_pools.specs.PoolLaws.{Giving, GivesTaken, GivingUndoes, PoolOfTwo, PoolsStay, TakenAreDistinct, Taking, is_number, two_addresses, v4_part, v6_part}
-use Rattle.nas_pools.specs.Pools.{ArePools, FamilyParts, IsFamily, PoolsParts, give_of, give_part, has_address, has_part, is_taken_at, take_of, without_taken}
-use Rattle.nas_pools.proofs.FamilyLemmas.{Gave, Took, took_back}
+use Rattle.nas_pools.specs.PoolLaws.{GivesTaken, GivingUndoes, PoolOfTwo, PoolsStay, TakenAreDistinct, is_number, two_addresses, v4_part, v6_part}
+use Rattle.nas_pools.specs.Pools.{FamilyParts, IsFamily, PoolsParts, give_of, has_address, has_part, is_taken_at, take_of}
+use Rattle.nas_pools.proofs.FamilyLemmas.{took_back}
 use Rattle.nas_pools.proofs.OneLaws.{takes_free}
 use Rattle.nas_pools.proofs.RiseLemmas.{rise_with, rise_without}
 use Rattle.nas_pools.proofs.TakingLemmas.{GavePart, TookPart, TookParts, gave_parts, took_parts}

@@ -1,5 +1,5 @@
 -- Numbers kept as the bits of words.
-use Rattle.std.specs.Prelude.{◌≡◌, ◌≤◌, ◌<◌, ◌+◌, ◌-◌, ◌*◌, ◌/◌, ◌%◌, ◌^◌, ℕ, zero, suc, Bool, List, [], ◌∷◌, length, ◌==◌, if◌then◌else◌, slice_index, slice_set, bit_and, bit_or}
+use Rattle.std.specs.Prelude.{◌≡◌, ◌≤◌, ◌<◌, ◌-◌, ◌*◌, ◌/◌, ◌%◌, ◌^◌, ℕ, zero, suc, Bool, List, [], ◌∷◌, length, ◌==◌, if◌then◌else◌, slice_index, slice_set, bit_and, bit_or}
 use Rattle.std.specs.Int.{w64, bit_at, bit_not}
 
 -- of the word n / 64 the bit n % 64 is 1

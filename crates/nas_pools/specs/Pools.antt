@@ -93,6 +93,10 @@ take_of kind p = if kind == 1 then take_v4 p else (if kind == 2 then take_v6 p e
 abbrev pub next_of : ℕ → PoolsParts → Option Address
 next_of kind p = option_map (λ taking. taking.0) (take_of kind p)
 
+-- the pools after it is taken, where there is one
+abbrev pub after_taking : ℕ → PoolsParts → PoolsParts
+after_taking kind p = unwrap_or (option_map (λ taking. taking.1) (take_of kind p)) p
+
 -- the pools after an address is given back, where each part of it is taken
 unfoldable pub give_of : Address → PoolsParts → Option PoolsParts
 give_of (V4 v4) p = option_map (λ four. record p { v4 = four }) (give_part 4 v4 p.v4)

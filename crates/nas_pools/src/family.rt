@@ -1,8 +1,9 @@
 //! The addresses of one family.
 ghost use Rattle.std.specs.Prelude.{◌≡◌, ◌≤◌, ◌<◌, ◌+◌, ◌^◌, IfOk, IfSome};
 ghost use Rattle.nas_pools.specs.Numbers.{least_free};
-ghost use Rattle.nas_pools.specs.Pools.{IsFamily, octets_of, taken_at, taken_number, unused, with_given, with_taken, without_taken};
+ghost use Rattle.nas_pools.specs.Pools.{IsFamily, octets_of, taken_at, taken_number, unused, unused_v6, with_given, with_taken, without_taken};
 
+use crate::config::Pool6;
 use crate::numbers::Numbers;
 use byteorder::{BigEndian, ByteOrder};
 use nas_base::Memory;
@@ -38,6 +39,16 @@ impl Family {
             first,
             numbers: Numbers::new(alloc, size)?,
         })
+    }
+
+    // The identifiers of IPv6 of which none is taken; there are none where there is no pool of them.
+    pub fn new_v6(alloc: Global, pool6: Option<Pool6>) -> Result<Family, Memory>
+        ensures { IfOk result (λ family. family ≡ unused_v6 pool6) }
+    {
+        match pool6 {
+            Some(Pool6 { first, size }) => Family::new(alloc, first, size as usize),
+            None => Family::new(alloc, 0, 0),
+        }
     }
 
     // An equal value, or `Memory`.

@@ -2,7 +2,7 @@
 ghost use Rattle.std.specs.Prelude.{◌≡◌, ◌<◌, true, IfOk, IfSome};
 ghost use Rattle.nas_pools.specs.Config.{is_pool_size, pool_fits};
 ghost use Rattle.nas_pools.specs.Kinds.{is_kind};
-ghost use Rattle.nas_pools.specs.Pools.{ArePools, Gives, Nexts, Taken, Takes, freed, has_address, has_v6, next_of, next_with, take_both, take_of, take_v4, take_v6, unused_pools, unused_v6};
+ghost use Rattle.nas_pools.specs.Pools.{ArePools, Gives, Nexts, Taken, Takes, freed, has_address, has_v6, next_of, next_with, take_both, take_of, take_v4, take_v6, unused_pools};
 
 use crate::config::Pool6;
 use crate::family::Family;
@@ -55,7 +55,7 @@ impl Pools {
     {
         let first = u64::from(BigEndian::read_u32(&first4));
         let v4 = Family::new(alloc, first, size4 as usize)?;
-        let v6 = family6(alloc, pool6)?;
+        let v6 = Family::new_v6(alloc, pool6)?;
         Ok(Pools { v4, v6 })
     }
 
@@ -251,18 +251,5 @@ impl Pools {
                 Some(Address::V4V6(self.v6.octets8(six), self.v4.octets4(four)))
             }
         }
-    }
-}
-
-// The identifiers of IPv6, none where there is no pool of them.
-fn family6(alloc: Global, pool6: Option<Pool6>) -> Result<Family, Memory>
-    ensures { IfOk result (λ family. family ≡ unused_v6 pool6) }
-{
-    match pool6 {
-        Some(pool) => {
-            let Pool6 { first, size } = pool;
-            Family::new(alloc, first, size as usize)
-        }
-        None => Family::new(alloc, 0, 0),
     }
 }

@@ -1,5 +1,5 @@
 -- The first word that isn't full has the first bit that is 0; where there is none, or none below the size, no number is free.
-use Rattle.std.proofs.Common.{◌≡◌, ◌<◌, ◌≤◌, ◌+◌, ◌*◌, ◌^◌, sym, ◌∙◌, arith, None, ℕ}
+use Rattle.std.proofs.Common.{◌<◌, ◌≤◌, ◌+◌, ◌*◌, ◌^◌, sym, ◌∙◌, arith}
 use Rattle.std.specs.Prelude.{slice_index}
 use Rattle.std.specs.Int.{trailing_ones, w64}
 use Rattle.nas_pools.proofs.SummaryLemmas.{first_below, first_past, no_word, past_words}

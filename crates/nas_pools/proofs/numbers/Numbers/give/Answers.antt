@@ -1,5 +1,5 @@
 -- The number's bit becomes 0, and so does that of its word.
-use Rattle.std.proofs.Common.{◌≡◌, ◌<◌, ◌/◌, length, sym, subst, ℕ}
+use Rattle.std.proofs.Common.{◌<◌, sym, subst}
 use Rattle.nas_pools.specs.Numbers.{NumbersParts}
 use Rattle.nas_pools.proofs.SummaryLemmas.{given_bits, word_there}
 use Rattle.nas_pools.proofs.ViewLemmas.{shown_cleared}

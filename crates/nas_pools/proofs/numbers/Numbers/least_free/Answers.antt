@@ -1,5 +1,4 @@
 -- A number that is found is below the size.
-use Rattle.std.proofs.Common.{◌<◌}
 use Rattle.nas_pools.specs.Bits.{is_marked}
 use Rattle.nas_pools.proofs.FailingLemmas.{failing_below}
 use Rattle.nas_pools.proofs.numbers.Numbers.least_free.Goals as goal

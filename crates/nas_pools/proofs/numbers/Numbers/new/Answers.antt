@@ -1,6 +1,4 @@
 -- Where no bit is 1, no number is taken.
-use Rattle.std.proofs.Common.{◌≡◌}
-use Rattle.nas_pools.proofs.FreshLemmas.{fresh_bits}
 use Rattle.nas_pools.proofs.ViewLemmas.{shown_fresh}
 use Rattle.nas_pools.proofs.numbers.Numbers.new.Goals as goal
 

@@ -1,5 +1,5 @@
 -- The numbers whose bits are 1 rise.
-use Rattle.std.proofs.Common.{◌≡◌, arith}
+use Rattle.std.proofs.Common.{arith}
 use Rattle.nas_pools.specs.Bits.{is_marked}
 use Rattle.nas_pools.proofs.PassingLemmas.{rise_passing}
 use Rattle.nas_pools.proofs.numbers.Numbers.rise.Goals as goal
