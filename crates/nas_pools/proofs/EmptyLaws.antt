@@ -7,7 +7,8 @@ use Rattle.nas_elements.specs.declared.address.Address.{Address}
 use Rattle.nas_elements.specs.declared.address.Address.TheVariants.{V4, V6, V4V6}
 use Rattle.nas_pools.specs.Numbers.{is_in, least_free}
 use Rattle.nas_pools.specs.PoolLaws.{EmptyIsFull, IsFull, names_v4, names_v6}
-use Rattle.nas_pools.specs.Pools.{FamilyParts, PoolsParts, octets_of, take_both, take_least, take_of, take_v4, take_v6, with_taken}
+use Rattle.nas_pools.specs.Families.{FamilyParts, octets_of, take_least, with_taken}
+use Rattle.nas_pools.specs.Pools.{PoolsParts, take_both, take_of, take_v4, take_v6}
 use Rattle.nas_pools.proofs.FailingLemmas.{all_pass_from, failing_none}
 
 full_by : (width : ℕ) (f : FamilyParts) (o : Option ℕ) → least_free f.size f.taken ≡ o →

@@ -8,7 +8,7 @@ use Rattle.std.proofs.lemmas.Option.{same_Some, some_pair_parts}
 use Rattle.byteorder.specs.Endian.{big_bytes, big_number}
 use Rattle.byteorder.specs.Numbers.{big_number-reads_back}
 use Rattle.nas_pools.specs.Numbers.{is_in, least_free, with_number, without}
-use Rattle.nas_pools.specs.Pools.{FamilyParts, give_part, is_taken_at, octets_of, take_least, with_taken, without_taken}
+use Rattle.nas_pools.specs.Families.{FamilyParts, give_part, is_taken_at, octets_of, take_least, with_taken, without_taken}
 use Rattle.nas_pools.proofs.FailingLemmas.{FoundAt, found_from}
 use Rattle.nas_pools.proofs.ListLemmas.{in_with_other, in_with_same, in_without_other, in_without_same, without_absent, without_with}
 

@@ -2,7 +2,7 @@
 use Rattle.std.proofs.Common.{◌≡◌, ◌<◌, ◌≤◌, ℕ, true, false, not, List, ap}
 use Rattle.std.specs.Prelude.{◌&&◌, ◌||◌, Option, Some, None}
 use Rattle.nas_pools.specs.PoolLaws.{GivesOne, TakesFree, TakesLeast, TakesOne, is_number, v4_part, v6_part}
-use Rattle.nas_pools.specs.Pools.{FamilyParts, is_taken_at}
+use Rattle.nas_pools.specs.Families.{FamilyParts, is_taken_at}
 use Rattle.nas_pools.proofs.FamilyLemmas.{gave_one, took_free, took_least, took_one}
 use Rattle.nas_pools.proofs.TakingLemmas.{GavePart, TookPart, gave_parts, took_parts}
 

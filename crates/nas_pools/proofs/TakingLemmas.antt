@@ -6,7 +6,8 @@ use Rattle.std.proofs.lemmas.Option.{same_Some, some_pair_parts}
 use Rattle.nas_elements.specs.declared.address.Address.{Address}
 use Rattle.nas_elements.specs.declared.address.Address.TheVariants.{V4, V6, V4V6}
 use Rattle.nas_pools.specs.PoolLaws.{Giving, Taking, v4_part, v6_part}
-use Rattle.nas_pools.specs.Pools.{ArePools, FamilyParts, PoolsParts, give_of, give_part, take_both, take_least, take_of, take_v4, take_v6}
+use Rattle.nas_pools.specs.Families.{FamilyParts, give_part, take_least}
+use Rattle.nas_pools.specs.Pools.{ArePools, PoolsParts, give_of, take_both, take_of, take_v4, take_v6}
 use Rattle.nas_pools.proofs.FamilyLemmas.{Gave, Took, gave, took}
 
 -- a family of which a part was taken, and one of which none was

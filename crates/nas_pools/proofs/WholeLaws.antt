@@ -7,7 +7,8 @@ use Rattle.byteorder.specs.Endian.{big_number}
 use Rattle.nas_elements.specs.declared.address.Address.{Address}
 use Rattle.nas_elements.specs.declared.address.Address.TheVariants.{V4, V6, V4V6}
 use Rattle.nas_pools.specs.PoolLaws.{GivesTaken, GivingUndoes, PoolOfTwo, PoolsStay, TakenAreDistinct, is_number, two_addresses, v4_part, v6_part}
-use Rattle.nas_pools.specs.Pools.{FamilyParts, IsFamily, PoolsParts, give_of, has_address, has_part, is_taken_at, take_of}
+use Rattle.nas_pools.specs.Families.{FamilyParts, IsFamily, has_part, is_taken_at}
+use Rattle.nas_pools.specs.Pools.{PoolsParts, give_of, has_address, take_of}
 use Rattle.nas_pools.proofs.FamilyLemmas.{took_back}
 use Rattle.nas_pools.proofs.OneLaws.{takes_free}
 use Rattle.nas_pools.proofs.RiseLemmas.{rise_with, rise_without}

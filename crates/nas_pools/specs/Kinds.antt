@@ -1,5 +1,5 @@
 -- Which addresses a data network has: IPv4 alone (1), IPv6 alone (2), or both (3).
-use Rattle.std.specs.Prelude.{ℕ, Bool, true, false, not, List, [], ◌∷◌, length, nat_le, ◌==◌, ◌&&◌, ◌||◌, Option, Some, None, if◌then◌else◌}
+use Rattle.std.specs.Prelude.{ℕ, Bool, true, false, not, List, [], ◌∷◌, length, nat_le, ◌&&◌, ◌||◌, Option, Some, None, if◌then◌else◌}
 use Rattle.std.specs.Str.{bytes_eq}
 
 -- a data network by its name, and its kinds
@@ -35,8 +35,3 @@ kinds_unlisted has_v6 = if has_v6 then 3 else 1
 abbrev pub kinds_of : List ℕ → Bool → List DnnKindParts → ℕ
 kinds_of dnn has_v6 [] = kinds_unlisted has_v6
 kinds_of dnn has_v6 (k ∷ ks) = if bytes_eq k.dnn dnn then k.kinds else kinds_of dnn has_v6 ks
-
--- where there are no identifiers of IPv6, each data network has IPv4 alone
-abbrev pub kinds_fit : Bool → List DnnKindParts → Bool
-kinds_fit has_v6 [] = true
-kinds_fit has_v6 (k ∷ ks) = (has_v6 || k.kinds == 1) && kinds_fit has_v6 ks

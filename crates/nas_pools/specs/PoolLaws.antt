@@ -4,7 +4,8 @@ use Rattle.byteorder.specs.Endian.{big_number}
 use Rattle.nas_elements.specs.declared.address.Address.{Address}
 use Rattle.nas_elements.specs.declared.address.Address.TheVariants.{V4, V6, V4V6}
 use Rattle.nas_pools.specs.Numbers.{is_in}
-use Rattle.nas_pools.specs.Pools.{ArePools, FamilyParts, PoolsParts, give_of, has_address, is_taken_at, take_of, unused_pools}
+use Rattle.nas_pools.specs.Families.{FamilyParts, is_taken_at}
+use Rattle.nas_pools.specs.Pools.{ArePools, PoolsParts, give_of, has_address, take_of, unused_pools}
 
 -- the parts of an address
 abbrev pub v4_part : Address → Option (List ℕ)

@@ -1,7 +1,7 @@
 //! The addresses of one family.
 ghost use Rattle.std.specs.Prelude.{◌≡◌, ◌≤◌, ◌<◌, ◌+◌, ◌^◌, IfOk, IfSome};
 ghost use Rattle.nas_pools.specs.Numbers.{least_free};
-ghost use Rattle.nas_pools.specs.Pools.{IsFamily, octets_of, taken_at, taken_number, unused, unused_v6, with_given, with_taken, without_taken};
+ghost use Rattle.nas_pools.specs.Families.{IsFamily, octets_of, taken_at, taken_number, unused, unused_v6, with_given, with_taken, without_taken};
 
 use crate::config::Pool6;
 use crate::numbers::Numbers;
@@ -19,7 +19,7 @@ pub struct Family {
 
 impl Model for Family {
     ghost use Rattle.std.specs.Prelude.{◌≤◌, ◌+◌, ◌^◌};
-    ghost use Rattle.nas_pools.specs.Pools.{FamilyParts};
+    ghost use Rattle.nas_pools.specs.Families.{FamilyParts};
 
     ghost Value = { FamilyParts };
 

@@ -1,7 +1,7 @@
 //! Which addresses data networks have.
 ghost use Rattle.std.specs.Prelude.{◌≡◌, IfOk};
 ghost use Rattle.std.specs.Str.{bytes_eq};
-ghost use Rattle.nas_pools.specs.Kinds.{are_distinct, is_listed, kinds_fit, kinds_from, kinds_of, kinds_unlisted};
+ghost use Rattle.nas_pools.specs.Kinds.{are_distinct, is_listed, kinds_from, kinds_of, kinds_unlisted};
 
 use nas_base::Memory;
 use nas_elements::Dnn;
@@ -93,18 +93,6 @@ impl DnnKinds {
             }
         }
         if has_v6 { 3 } else { 1 }
-    }
-
-    /// Whether each data network has IPv4 alone where there are no interface identifiers of IPv6, as `has_v6` says.
-    pub fn fit(&self, has_v6: bool) -> bool
-        ensures { result ≡ kinds_fit has_v6 self.now }
-    {
-        for kind in self.as_slice() {
-            if !has_v6 && kind.kinds != 1 {
-                return false;
-            }
-        }
-        true
     }
 
     /// An equal value, or `Memory`.

@@ -8,7 +8,7 @@ use std::alloc::Global;
 use std::marker::Model;
 
 // The numbers below a size that are taken: a bit for each number, and a bit for each word of these, which is 1 where the word has
-// no bit that is 0. So the least free number is found in two words, behind a walk over one in 4,096 of the numbers.
+// no bit that is 0. So the least free number of 65,536 is found behind a walk over 16 words at most.
 #[derive(Drop)]
 pub struct Numbers {
     size: usize,
