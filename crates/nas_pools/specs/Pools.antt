@@ -1,5 +1,5 @@
 -- The addresses that an SMF gives to its sessions (TS 23.501 clause 5.8.2.2, TS 24.501 clause 9.11.4.10).
-use Rattle.std.specs.Prelude.{◌≡◌, ◌≤◌, ℕ, ◌+◌, ◌-◌, ◌^◌, Bool, true, List, [], nat_le, nat_lt, ◌==◌, ◌&&◌, Option, Some, None, Result, Ok, Err, if◌then◌else◌, unwrap_or, option_map}
+use Rattle.std.specs.Prelude.{◌≡◌, ℕ, Bool, List, nat_lt, ◌==◌, ◌&&◌, Option, Some, None, Result, Ok, Err, if◌then◌else◌, unwrap_or, option_map}
 use Rattle.std.specs.Option.{option_and_then}
 use Rattle.byteorder.specs.Endian.{big_number}
 use Rattle.nas_elements.specs.declared.address.Address.{Address}
