@@ -12,10 +12,10 @@ use Rattle.mm_messages.specs.declared.registration.RegistrationType.{Registratio
 use Rattle.mm_messages.specs.declared.registration.RegistrationType.TheVariants.{Initial, Mobility, Periodic, Emergency}
 use Rattle.amf_core.specs.Challenges.{ended}
 use Rattle.amf_core.specs.declared.config.Configured.{Configured}
-use Rattle.amf_core.specs.Drafts.{with_next_tmsi}
 use Rattle.amf_core.specs.Naming.{is_any, is_guti}
 use Rattle.amf_core.specs.Registration.{accept_sent}
-use Rattle.amf_core.specs.Work.{answer_for, ask, config_of, put, start}
+use Rattle.amf_core.specs.State.{with_next_tmsi}
+use Rattle.amf_core.specs.Work.{Work, answer_for, ask, config_of, put, start}
 use Rattle.amf_core.specs.declared.acceptance.Whole.{Whole}
 use Rattle.amf_core.specs.declared.outs.SmfAsk.TheVariants.{KeepOnly, ReleaseAll}
 use Rattle.amf_core.specs.declared.procedures.Accepting.{Accepting}
@@ -24,7 +24,6 @@ use Rattle.amf_core.specs.declared.procedures.Procedure.TheVariants as procedure
 use Rattle.amf_core.specs.declared.requests.Request.{Request}
 use Rattle.amf_core.specs.declared.subscriber.Offer.{Offer}
 use Rattle.amf_core.specs.declared.subscriber.Subscriber.{Subscriber}
-use Rattle.amf_core.specs.declared.work.Work.{Work}
 
 -- An initial registration releases all sessions, any other those that the handset doesn't tell, where it tells any. What is left of
 -- those that were told last is told the handset.
@@ -61,7 +60,7 @@ opened_acceptance a named challenge s = record s {
 }
 
 abbrev pub tmsi_of : Work → ℕ
-tmsi_of w = w.amf.changes.tmsi
+tmsi_of w = w.amf.tmsi
 
 abbrev pub tmsi_taken : Work → Work
 tmsi_taken w = record w { amf = with_next_tmsi w.amf }

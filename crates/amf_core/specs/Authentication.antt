@@ -1,5 +1,5 @@
 -- The answers to AUTHENTICATION REQUEST (TS 24.501 clauses 5.4.1.3.4 to 5.4.1.3.7).
-use Rattle.std.specs.Prelude.{ℕ, Bool, false, ◌==◌, ◌||◌, List, Option, Some, None}
+use Rattle.std.specs.Prelude.{ℕ, Unit, Bool, true, false, ◌==◌, ◌||◌, List, Option, Some, None, Result, Ok, Err}
 use Rattle.std.specs.Str.{bytes_eq}
 use Rattle.nas_base.specs.Branches.{per, when◌then◌else◌}
 use Rattle.nas_base.specs.declared.mm_cause.TheConstants as cause
@@ -10,9 +10,8 @@ use Rattle.mm_messages.specs.declared.authentication.AuthenticationFailure.{Auth
 use Rattle.mm_messages.specs.declared.authentication.AuthenticationResponse.{AuthenticationResponse}
 use Rattle.mm_messages.specs.declared.message.Mm.TheVariants as mm
 use Rattle.amf_core.specs.Challenges.{challenge, challenge_open, challenge_put, ended}
-use Rattle.amf_core.specs.Drafts.{is_right}
 use Rattle.amf_core.specs.Registration.{is_on}
-use Rattle.amf_core.specs.Work.{answer_for, home_of, put_home}
+use Rattle.amf_core.specs.Work.{Work, answer_for, put_home}
 use Rattle.amf_core.specs.Answers.{AuthenticationValues}
 use Rattle.amf_core.specs.declared.authentication.Asking.{Asking}
 use Rattle.amf_core.specs.declared.procedures.Challenging.{Challenging}
@@ -23,7 +22,6 @@ use Rattle.amf_core.specs.declared.procedures.Procedure.TheVariants as procedure
 use Rattle.amf_core.specs.declared.procedures.Purpose.{Purpose}
 use Rattle.amf_core.specs.declared.procedures.Purpose.TheVariants.{Registration, Command}
 use Rattle.amf_core.specs.declared.subscriber.Subscriber.{Subscriber}
-use Rattle.amf_core.specs.declared.work.Work.{Work}
 
 -- The challenge that waits for the answer to its AUTHENTICATION REQUEST, which is taken on its own link alone.
 abbrev pub asking_in : Phase → Challenging → Option Asking
@@ -79,11 +77,15 @@ abbrev pub challenged_again : Challenging → Subscriber → Work → Work
 challenged_again c s w = challenge c.purpose (next_link c.purpose c s) None s w
 
 -- an AUTS that is right brings SQN_HE up to SQN_MS
+abbrev pub is_right : {E : Type 0} → Result Unit E → Bool
+is_right (Ok done) = true
+is_right (Err refusal) = false
+
 abbrev pub resynchronised : List ℕ → Asking → Subscriber → Work → Work
 resynchronised auts o s w =
     let rand : List ℕ = o.auth.challenge.rand in
-    when is_right (resync_of s.supi rand auts (home_of w))
-    then challenged_again o.challenging s (put_home (resynced s.supi rand auts (home_of w)) w) else w
+    when is_right (resync_of s.supi rand auts w.home)
+    then challenged_again o.challenging s (put_home (resynced s.supi rand auts w.home) w) else w
 
 -- MAC failure and non-5G authentication unacceptable end the challenge; synch failure and ngKSI already in use are followed by another
 abbrev pub failed_by : AuthenticationFailure → ℕ → Asking → Subscriber → Work → Work

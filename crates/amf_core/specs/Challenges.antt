@@ -14,7 +14,7 @@ use Rattle.mm_messages.specs.declared.authentication.AuthenticationRequest.{Auth
 use Rattle.mm_messages.specs.declared.message.Mm.TheVariants as mm
 use Rattle.mm_messages.specs.declared.security_mode.SecurityModeCommand.{SecurityModeCommand}
 use Rattle.amf_core.specs.declared.config.Configured.{Configured}
-use Rattle.amf_core.specs.Work.{by_link, config_of, home_of, link_of, put, put_home, put_link, reject, say, say_on, start, stop}
+use Rattle.amf_core.specs.Work.{Work, by_link, config_of, link_of, put, put_home, put_link, reject, say, say_on, start, stop}
 use Rattle.amf_core.specs.declared.acts.Protection.TheVariants.{IntegrityProtectedWithNewContext}
 use Rattle.amf_core.specs.Answers.{AuthenticationValues}
 use Rattle.amf_core.specs.declared.procedures.Challenging.{Challenging}
@@ -25,7 +25,6 @@ use Rattle.amf_core.specs.declared.procedures.Procedure.TheVariants as procedure
 use Rattle.amf_core.specs.declared.procedures.Purpose.{Purpose}
 use Rattle.amf_core.specs.declared.procedures.Purpose.TheVariants.{Registration, Command}
 use Rattle.amf_core.specs.declared.subscriber.Subscriber.{Subscriber}
-use Rattle.amf_core.specs.declared.work.Work.{Work}
 
 -- A procedure ends: its timer is stopped.
 abbrev pub stopped_of : Procedure → Subscriber → Work → Work
@@ -145,8 +144,8 @@ VectorFits (Err refusal) = Unit {0}
 -- A challenge starts where nothing is open. Whatever was open ends.
 abbrev pub challenge_next : Purpose → Option ℕ → Option (List ℕ) → Subscriber → Work → Work
 challenge_next purpose link capability s w =
-    by_vector (challenge_of s.supi w.rand (home_of w)) purpose link capability s
-    (put_home (challenged s.supi w.rand (home_of w)) w)
+    by_vector (challenge_of s.supi w.rand w.home) purpose link capability s
+    (put_home (challenged s.supi w.rand w.home) w)
 
 unfoldable pub challenge : Purpose → Option ℕ → Option (List ℕ) → Subscriber → Work → Work
 challenge purpose link capability s w = challenge_next purpose link capability s (stopped s w)

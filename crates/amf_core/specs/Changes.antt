@@ -1,4 +1,4 @@
--- What was kept before a step, and what the step changed of it.
+-- What an AMF and its home network keep, and what a step changed of it.
 use Rattle.std.specs.Prelude.{ℕ, List, [], Option, Some, None}
 use Rattle.milenage.specs.Home.{HomeRecord}
 use Rattle.amf_core.specs.Keyed.{all_current}
@@ -6,8 +6,8 @@ use Rattle.amf_core.specs.State.{AmfState, is_same_link, is_same_subscriber}
 use Rattle.amf_core.specs.declared.link.Link.{Link}
 use Rattle.amf_core.specs.declared.subscriber.Subscriber.{Subscriber}
 
--- what was kept: the AMF, and the home network
-pub record BeforeState : Type 0 where
+-- the AMF, and the home network
+pub record CoreState : Type 0 where
   pub amf : AmfState
   pub home : List HomeRecord
 

@@ -8,7 +8,7 @@ use Rattle.nas_security.specs.Passing.{judged}
 use Rattle.nas_security.specs.declared.verdicts.Verdict.{Verdict}
 use Rattle.nas_security.specs.declared.verdicts.Verdict.TheVariants as verdicts
 use Rattle.amf_core.specs.SecurityMode.{commanding_on}
-use Rattle.amf_core.specs.Work.{link_of, put, put_link, tell}
+use Rattle.amf_core.specs.Work.{Work, link_of, put, put_link, tell}
 use Rattle.amf_core.specs.declared.checks.Check.{Check}
 use Rattle.amf_core.specs.declared.outs.AmfOut.TheVariants.{Passed}
 use Rattle.amf_core.specs.declared.procedures.Challenging.{Challenging}
@@ -16,7 +16,6 @@ use Rattle.amf_core.specs.declared.procedures.Phase.TheVariants.{Mode}
 use Rattle.amf_core.specs.declared.procedures.Procedure.TheVariants as procedures
 use Rattle.amf_core.specs.declared.security_mode.Commanding.{Commanding}
 use Rattle.amf_core.specs.declared.subscriber.Subscriber.{Subscriber}
-use Rattle.amf_core.specs.declared.work.Work.{Work}
 
 -- the count of octets that passed, and their plain message
 pub record Opened : Type 0 where

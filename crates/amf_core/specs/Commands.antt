@@ -10,14 +10,13 @@ use Rattle.milenage.specs.declared.vector.Vector.{Vector}
 use Rattle.amf_core.specs.Challenges.{challenge_next}
 use Rattle.amf_core.specs.Deregistration.{deregistration_put}
 use Rattle.amf_core.specs.State.{word_of}
-use Rattle.amf_core.specs.Work.{home_of, subscriber}
+use Rattle.amf_core.specs.Work.{Work, subscriber}
 use Rattle.amf_core.specs.declared.inputs.AmfRefusal.{AmfRefusal}
 use Rattle.amf_core.specs.declared.inputs.AmfRefusal.TheVariants.{UnknownSupi, WrongState, SqnSpent}
 use Rattle.amf_core.specs.declared.procedures.Procedure.{Procedure}
 use Rattle.amf_core.specs.declared.procedures.Procedure.TheVariants as procedures
 use Rattle.amf_core.specs.declared.procedures.Purpose.TheVariants.{Command}
 use Rattle.amf_core.specs.declared.subscriber.Subscriber.{Subscriber}
-use Rattle.amf_core.specs.declared.work.Work.{Work}
 
 -- A command begins where its subscriber is registered and no procedure is open.
 abbrev pub is_registered : AmfWord → Bool
@@ -42,7 +41,7 @@ by_sqn (Err homes.Unknown) s w = Ok (challenge_next Command s.link None s w)
 by_sqn (Ok v) s w = Ok (challenge_next Command s.link None s w)
 
 abbrev pub authenticated : Subscriber → Work → Result Work AmfRefusal
-authenticated s w = when may_begin s then by_sqn (challenge_of s.supi w.rand (home_of w)) s w else Err (WrongState (word_of s))
+authenticated s w = when may_begin s then by_sqn (challenge_of s.supi w.rand w.home) s w else Err (WrongState (word_of s))
 
 unfoldable pub authenticate : List ℕ → Work → Result Work AmfRefusal
 authenticate supi w = per (subscriber supi w) (Err UnknownSupi) (λ (s : Subscriber). authenticated s w)

@@ -24,10 +24,9 @@ use Rattle.amf_core.specs.SecurityMode.{mode_completed, mode_rejected}
 use Rattle.amf_core.specs.Service.{service_refused, service_requested}
 use Rattle.amf_core.specs.State.{word_of}
 use Rattle.amf_core.specs.Transport.{transported}
-use Rattle.amf_core.specs.Work.{link_of, put_link, status, subscriber_of_link}
+use Rattle.amf_core.specs.Work.{Work, link_of, put_link, status, subscriber_of_link}
 use Rattle.amf_core.specs.declared.checks.Check.{Check}
 use Rattle.amf_core.specs.declared.subscriber.Subscriber.{Subscriber}
-use Rattle.amf_core.specs.declared.work.Work.{Work}
 
 -- The row of each message that passed and that the table of collisions takes.
 unfoldable pub taken : ℕ → Check → Mm → Work → Work

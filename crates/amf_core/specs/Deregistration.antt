@@ -6,14 +6,13 @@ use Rattle.mm_messages.specs.declared.deregistration.DeregistrationRequestUeOrig
 use Rattle.mm_messages.specs.declared.message.Mm.TheVariants as mm
 use Rattle.amf_core.specs.Challenges.{stopped}
 use Rattle.amf_core.specs.Registration.{is_on}
-use Rattle.amf_core.specs.Work.{ask, put, say, say_on, start}
+use Rattle.amf_core.specs.Work.{Work, ask, put, say, say_on, start}
 use Rattle.amf_core.specs.declared.acts.Protection.TheVariants.{Ciphered}
 use Rattle.amf_core.specs.declared.outs.SmfAsk.TheVariants.{ReleaseAll}
 use Rattle.amf_core.specs.declared.procedures.Deregistering.{Deregistering}
 use Rattle.amf_core.specs.declared.procedures.Procedure.{Procedure}
 use Rattle.amf_core.specs.declared.procedures.Procedure.TheVariants as procedures
 use Rattle.amf_core.specs.declared.subscriber.Subscriber.{Subscriber}
-use Rattle.amf_core.specs.declared.work.Work.{Work}
 
 -- Not registered: whatever is open ends, and the sessions are released. The contexts and the kept 5G-GUTIs stay.
 abbrev pub unregistered : Subscriber → Subscriber

@@ -9,7 +9,7 @@ use Rattle.amf_core.specs.Deregistration.{deregistration_put, unregistered}
 use Rattle.amf_core.specs.Registration.{acceptance, is_on}
 use Rattle.amf_core.specs.State.{unused}
 use Rattle.amf_core.specs.Transport.{brought_down}
-use Rattle.amf_core.specs.Work.{ask, config_of, link_of, put, put_link, say_on, start, subscriber}
+use Rattle.amf_core.specs.Work.{Work, ask, config_of, link_of, put, put_link, say_on, start, subscriber}
 use Rattle.amf_core.specs.declared.acts.Protection.TheVariants.{Ciphered}
 use Rattle.amf_core.specs.declared.outs.SmfAsk.TheVariants.{ReleaseAll}
 use Rattle.amf_core.specs.declared.procedures.Accepting.{Accepting}
@@ -19,7 +19,6 @@ use Rattle.amf_core.specs.declared.procedures.Procedure.{Procedure}
 use Rattle.amf_core.specs.declared.procedures.Procedure.TheVariants as procedures
 use Rattle.amf_core.specs.declared.procedures.Purpose.TheVariants.{Command}
 use Rattle.amf_core.specs.declared.subscriber.Subscriber.{Subscriber}
-use Rattle.amf_core.specs.declared.work.Work.{Work}
 
 -- Each message is sent five times at most, at the fifth expiry its procedure ends (clauses 5.4.1.3.7, 5.4.2.7, 5.5.1.2.8 and 5.5.2.3.5).
 abbrev pub is_left : ℕ → Bool

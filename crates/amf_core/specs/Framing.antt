@@ -6,14 +6,14 @@ use Rattle.mm_messages.specs.Messages.{spelling}
 use Rattle.nas_security.specs.Contexts.{SecurityContext}
 use Rattle.nas_security.specs.Counts.{with_next}
 use Rattle.nas_security.specs.Frame.{frame}
+use Rattle.milenage.specs.Home.{HomeRecord}
 use Rattle.nas_security.specs.declared.sends.Pass.{Pass}
-use Rattle.amf_core.specs.Drafts.{by_now, with_record}
+use Rattle.amf_core.specs.Changes.{CoreState}
 use Rattle.amf_core.specs.SecurityMode.{commanding_of}
-use Rattle.amf_core.specs.State.{subscriber_in}
+use Rattle.amf_core.specs.State.{AmfState, subscriber_in, with_subscriber}
 use Rattle.amf_core.specs.declared.acts.Act.{Act}
 use Rattle.amf_core.specs.declared.acts.Act.TheVariants.{Say, Tell}
 use Rattle.amf_core.specs.declared.acts.Protection.TheVariants.{Plain, Ciphered, IntegrityProtectedWithNewContext}
-use Rattle.amf_core.specs.declared.framing.Framed.{Framed}
 use Rattle.amf_core.specs.declared.outs.AmfOut.{AmfOut}
 use Rattle.amf_core.specs.declared.outs.AmfOut.TheVariants.{Send}
 use Rattle.amf_core.specs.declared.procedures.Challenging.{Challenging}
@@ -21,6 +21,20 @@ use Rattle.amf_core.specs.declared.procedures.Phase.TheVariants.{Mode}
 use Rattle.amf_core.specs.declared.procedures.Procedure.TheVariants as procedures
 use Rattle.amf_core.specs.declared.security_mode.Commanding.{Commanding}
 use Rattle.amf_core.specs.declared.subscriber.Subscriber.{Subscriber}
+
+-- the AMF, whose contexts' counts the messages take, and what goes out
+pub record Framed : Type 0 where
+  pub amf : AmfState
+  pub outs : List AmfOut
+
+-- that, beside the home network and what was kept before, which framing leaves
+pub record Framing : Type 0 where
+  pub framed : Framed
+  pub home : List HomeRecord
+  pub before : CoreState
+
+abbrev pub by : (Framed → Framed) → Framing → Framing
+by step f = record f { framed = step f.framed }
 
 -- one more goes out; a message of the network is never fresh
 abbrev pub framed_out : AmfOut → Framed → Framed
@@ -30,7 +44,7 @@ abbrev pub sent : ℕ → List ℕ → Option Pass → Framed → Framed
 sent number octets pass f = framed_out (Send (record { link = number; fresh = false; octets = octets; pass = pass })) f
 
 abbrev pub counted : Subscriber → Framed → Framed
-counted s f = record f { amf = with_record s f.amf }
+counted s f = record f { amf = with_subscriber s f.amf }
 
 -- a message whose frame would have more than 4,096 octets isn't sent
 abbrev pub is_too_long : List ℕ → Bool
@@ -67,7 +81,7 @@ ciphered_for number message s f =
 
 unfoldable pub framed_ciphered : ℕ → List ℕ → List ℕ → Framed → Framed
 framed_ciphered number supi message f =
-    per (subscriber_in supi (by_now f.amf).subscribers) (framed_plain number message f) (λ (s : Subscriber). ciphered_for number message s f)
+    per (subscriber_in supi f.amf.subscribers) (framed_plain number message f) (λ (s : Subscriber). ciphered_for number message s f)
 
 -- header type 3, under the context that is commanded
 abbrev pub counted_command : Commanding → Challenging
@@ -85,7 +99,7 @@ commanded_for number message s f =
 
 unfoldable pub framed_with_new_context : ℕ → List ℕ → List ℕ → Framed → Framed
 framed_with_new_context number supi message f =
-    per (subscriber_in supi (by_now f.amf).subscribers) f (λ (s : Subscriber). commanded_for number message s f)
+    per (subscriber_in supi f.amf.subscribers) f (λ (s : Subscriber). commanded_for number message s f)
 
 unfoldable pub framed : Act → Framed → Framed
 framed (Tell out) f = framed_out out f

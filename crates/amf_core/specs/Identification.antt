@@ -7,9 +7,8 @@ use Rattle.nas_elements.specs.declared.identity.Identity.TheVariants as identiti
 use Rattle.mm_messages.specs.declared.identification.IdentityResponse.{IdentityResponse}
 use Rattle.amf_core.specs.Naming.{named_by_suci}
 use Rattle.amf_core.specs.Registration.{request_by_suci}
-use Rattle.amf_core.specs.Work.{link_of, put_link}
+use Rattle.amf_core.specs.Work.{Work, link_of, put_link}
 use Rattle.amf_core.specs.declared.requests.Request.{Request}
-use Rattle.amf_core.specs.declared.work.Work.{Work}
 
 -- the request that waited for it goes on with the subscriber of the SUCI, and waits no longer; it counts as one that didn't pass
 abbrev pub waited : ℕ → SuciParts → Request → Work → Work

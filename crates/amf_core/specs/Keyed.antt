@@ -6,6 +6,11 @@ abbrev pub found : {A : Type 0} → (A → Bool) → List A → Option A
 found is [] = None
 found is (x ∷ xs) = if is x then Some x else found is xs
 
+-- a record in the place of those of its key
+abbrev pub put_in : {A : Type 0} → (A → A → Bool) → A → List A → List A
+put_in same y [] = []
+put_in same y (x ∷ xs) = (if same y x then y else x) ∷ put_in same y xs
+
 -- the first of these records that has the key of another
 abbrev pub newest : {A : Type 0} → (A → A → Bool) → List A → A → Option A
 newest same [] x = None

@@ -7,12 +7,10 @@ use Rattle.nas_elements.specs.declared.guti.Guti.{Guti}
 use Rattle.nas_elements.specs.declared.guti.Stmsi.{Stmsi}
 use Rattle.nas_elements.specs.declared.identity.Identity.{Identity}
 use Rattle.nas_elements.specs.declared.identity.Identity.TheVariants as identities
-use Rattle.amf_core.specs.Drafts.{by_now}
 use Rattle.amf_core.specs.Keyed.{found}
 use Rattle.amf_core.specs.State.{has_supi}
-use Rattle.amf_core.specs.Work.{subscriber}
+use Rattle.amf_core.specs.Work.{Work, subscriber}
 use Rattle.amf_core.specs.declared.subscriber.Subscriber.{Subscriber}
-use Rattle.amf_core.specs.declared.work.Work.{Work}
 
 -- A SUCI names the subscriber whose SUPI has its digits, wherever the MNC ends. The routing indicator is passed over.
 abbrev pub suci_digits : SuciParts → List ℕ
@@ -43,10 +41,10 @@ abbrev pub keeps_stmsi : Stmsi → Subscriber → Bool
 keeps_stmsi t s = is_any (is_short_for t) s.kept
 
 abbrev pub keeper : Guti → Work → Option Subscriber
-keeper g w = found (keeps_guti g) (by_now w.amf).subscribers
+keeper g w = found (keeps_guti g) w.amf.subscribers
 
 abbrev pub short_keeper : Stmsi → Work → Option Subscriber
-short_keeper t w = found (keeps_stmsi t) (by_now w.amf).subscribers
+short_keeper t w = found (keeps_stmsi t) w.amf.subscribers
 
 -- a 5G-GUTI is kept for another subscriber than the one of this SUPI
 abbrev pub keeps_for_another : List ℕ → Guti → Subscriber → Bool

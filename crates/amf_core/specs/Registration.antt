@@ -18,7 +18,7 @@ use Rattle.amf_core.specs.Challenges.{challenge}
 use Rattle.amf_core.specs.declared.config.Configured.{Configured}
 use Rattle.amf_core.specs.Naming.{keeper, named_by_suci}
 use Rattle.amf_core.specs.Requests.{is_same}
-use Rattle.amf_core.specs.Work.{answer, config_of, link_of, put_link, reject, say}
+use Rattle.amf_core.specs.Work.{Work, answer, config_of, link_of, put_link, reject, say}
 use Rattle.amf_core.specs.declared.acts.Protection.TheVariants.{Ciphered}
 use Rattle.amf_core.specs.declared.procedures.Accepting.{Accepting}
 use Rattle.amf_core.specs.declared.procedures.Procedure.{Procedure}
@@ -29,7 +29,6 @@ use Rattle.amf_core.specs.declared.requests.Named.{Named}
 use Rattle.amf_core.specs.declared.requests.Named.TheVariants as named
 use Rattle.amf_core.specs.declared.requests.Request.{Request}
 use Rattle.amf_core.specs.declared.subscriber.Subscriber.{Subscriber}
-use Rattle.amf_core.specs.declared.work.Work.{Work}
 
 -- A capability is enough where it has 128-NIA2, and 128-NEA2 or no ciphering.
 abbrev pub is_enough : List ℕ → Bool

@@ -16,7 +16,7 @@ use Rattle.amf_core.specs.Acceptance.{registration_goes_on}
 use Rattle.amf_core.specs.Challenges.{ended, stopped}
 use Rattle.amf_core.specs.Naming.{suci_digits}
 use Rattle.amf_core.specs.Registration.{is_on}
-use Rattle.amf_core.specs.Work.{ask, put}
+use Rattle.amf_core.specs.Work.{Work, ask, put}
 use Rattle.amf_core.specs.declared.acceptance.Whole.{Whole}
 use Rattle.amf_core.specs.declared.outs.SmfAsk.TheVariants.{Switched}
 use Rattle.amf_core.specs.declared.procedures.Challenging.{Challenging}
@@ -28,7 +28,6 @@ use Rattle.amf_core.specs.declared.procedures.Purpose.{Purpose}
 use Rattle.amf_core.specs.declared.procedures.Purpose.TheVariants.{Registration, Command}
 use Rattle.amf_core.specs.declared.security_mode.Commanding.{Commanding}
 use Rattle.amf_core.specs.declared.subscriber.Subscriber.{Subscriber}
-use Rattle.amf_core.specs.declared.work.Work.{Work}
 
 -- The challenge whose context waits for the answer to its SECURITY MODE COMMAND.
 abbrev pub commanding_in : Phase → Challenging → Option Commanding

@@ -4,10 +4,9 @@ use Rattle.nas_base.specs.Branches.{when◌then◌else◌}
 use Rattle.nas_base.specs.declared.mm_cause.TheConstants as cause
 use Rattle.mm_messages.specs.declared.message.Mm.{Mm}
 use Rattle.mm_messages.specs.declared.message.Mm.TheVariants as mm
-use Rattle.amf_core.specs.Work.{answer, answer_for, say}
+use Rattle.amf_core.specs.Work.{Work, answer, answer_for, say}
 use Rattle.amf_core.specs.declared.acts.Protection.TheVariants.{Ciphered}
 use Rattle.amf_core.specs.declared.subscriber.Subscriber.{Subscriber}
-use Rattle.amf_core.specs.declared.work.Work.{Work}
 
 -- SERVICE ACCEPT and SERVICE REJECT tell no sessions.
 abbrev pub service_accept : Mm

@@ -7,7 +7,7 @@ use Rattle.nas_base.specs.declared.state_words.AmfWord.TheVariants as words
 use Rattle.nas_elements.specs.Status.{no_session}
 use Rattle.nas_security.specs.declared.challenges.Challenge.{Challenge}
 use Rattle.amf_core.specs.Config.{AmfBeginnings}
-use Rattle.amf_core.specs.Keyed.{found}
+use Rattle.amf_core.specs.Keyed.{found, put_in}
 use Rattle.amf_core.specs.declared.config.AmfSubscriber.{AmfSubscriber}
 use Rattle.amf_core.specs.declared.config.Configured.{Configured}
 use Rattle.amf_core.specs.declared.link.Link.{Link}
@@ -99,6 +99,16 @@ is_same_subscriber s x = bytes_eq x.supi s.supi
 
 abbrev pub is_same_link : Link → Link → Bool
 is_same_link l x = x.number == l.number
+
+-- a record in the place of that of its subscriber, one in the place of that of its link, and the next 5G-TMSI taken
+abbrev pub with_subscriber : Subscriber → AmfState → AmfState
+with_subscriber s a = record a { subscribers = put_in is_same_subscriber s a.subscribers }
+
+abbrev pub with_link : Link → AmfState → AmfState
+with_link l a = record a { links = put_in is_same_link l a.links }
+
+abbrev pub with_next_tmsi : AmfState → AmfState
+with_next_tmsi a = record a { tmsi = a.tmsi + 1 }
 
 -- The challenge whose context waits for the answer to its command.
 abbrev pub pending_phase : Phase → Option Challenge

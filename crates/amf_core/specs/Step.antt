@@ -3,27 +3,21 @@ use Rattle.std.specs.Prelude.{◌≡◌, ℕ, List, [], Result, Ok, Err}
 use Rattle.milenage.specs.Home.{HomeRecord}
 use Rattle.amf_core.specs.Commands.{authenticate, deregister}
 use Rattle.amf_core.specs.Delivery.{brought_up}
-use Rattle.amf_core.specs.Changes.{changed, home_now, unchanged}
+use Rattle.amf_core.specs.Changes.{changed, home_now}
 use Rattle.amf_core.specs.Events.{carried_down, dropped, expired, fenced, sessions_told}
-use Rattle.amf_core.specs.Framing.{framed_all}
+use Rattle.amf_core.specs.Framing.{Framed, framed_all}
 use Rattle.amf_core.specs.State.{AmfState}
-use Rattle.amf_core.specs.declared.framing.Framed.{Framed}
 use Rattle.amf_core.specs.declared.inputs.AmfInput.{AmfInput}
 use Rattle.amf_core.specs.declared.inputs.AmfInput.TheVariants.{Uplink, Expired, Authenticate, Deregister, Fence, Sessions, Down, Dropped}
 use Rattle.amf_core.specs.declared.inputs.AmfRefusal.{AmfRefusal}
 use Rattle.amf_core.specs.declared.inputs.AmfRefusal.TheVariants as refusals
 use Rattle.amf_core.specs.declared.outs.AmfOut.{AmfOut}
 use Rattle.amf_core.specs.declared.stepping.Done.{Done}
-use Rattle.amf_core.specs.declared.work.Work.{Work}
+use Rattle.amf_core.specs.Work.{Work}
 
 -- a step at its start
 abbrev pub started : AmfState → List HomeRecord → ℕ → List ℕ → Work
-started a home now rand = record {
-  moment = now;
-  rand = rand;
-  amf = record { before = record { amf = a; home = home }; changes = unchanged a };
-  acts = [];
-}
+started a home now rand = record { moment = now; rand = rand; amf = a; home = home; acts = [] }
 
 -- the row of an input
 unfoldable pub worked : AmfInput → Work → Result Work AmfRefusal
@@ -45,19 +39,15 @@ pub record Stepped : Type 0 where
 abbrev pub framed_of : Work → Framed
 framed_of w = framed_all w.acts (record { amf = w.amf; outs = [] })
 
-unfoldable pub ended : AmfState → List HomeRecord → Work → Stepped
-ended a home w = record {
-  amf = changed (framed_of w).amf.changes a;
-  home = home_now (framed_of w).amf.changes.home home;
-  outs = (framed_of w).outs;
-}
+unfoldable pub ended : Work → Stepped
+ended w = record { amf = (framed_of w).amf; home = w.home; outs = (framed_of w).outs }
 
-abbrev pub finished : AmfState → List HomeRecord → Result Work AmfRefusal → Result Stepped AmfRefusal
-finished a home (Ok w) = Ok (ended a home w)
-finished a home (Err e) = Err e
+abbrev pub finished : Result Work AmfRefusal → Result Stepped AmfRefusal
+finished (Ok w) = Ok (ended w)
+finished (Err e) = Err e
 
 abbrev pub step_of : AmfState → List HomeRecord → ℕ → List ℕ → AmfInput → Result Stepped AmfRefusal
-step_of a home now rand input = finished a home (worked input (started a home now rand))
+step_of a home now rand input = finished (worked input (started a home now rand))
 
 -- what a step answered: the new state and what goes out; or all is as it was, with the refusal
 abbrev pub Kept : AmfState → AmfState → List HomeRecord → List HomeRecord → Type 0
@@ -70,10 +60,12 @@ Steps old new old_home new_home (Err refusals.UnknownSupi) step = Kept old new o
 Steps old new old_home new_home (Err (refusals.WrongState word)) step = Kept old new old_home new_home × (step ≡ Err (refusals.WrongState word))
 Steps old new old_home new_home (Err (refusals.SqnSpent n)) step = Kept old new old_home new_home × (step ≡ Err (refusals.SqnSpent n))
 
--- the same for an AMF and a home network that their owner keeps, and changes that it takes over
+-- what the changes of a step make of an AMF and a home network that their owner keeps, and what goes out
+abbrev pub taken_over : Done → AmfState → List HomeRecord → Stepped
+taken_over done a home = record { amf = changed done.changes a; home = home_now done.changes.home home; outs = done.outs }
+
 abbrev pub Follows : AmfState → List HomeRecord → Result Done AmfRefusal → Result Stepped AmfRefusal → Type 0
-Follows a home (Ok done) step =
-    step ≡ Ok (record { amf = changed done.changes a; home = home_now done.changes.home home; outs = done.outs })
+Follows a home (Ok done) step = step ≡ Ok (taken_over done a home)
 Follows a home (Err refusals.Memory) step = Unit {0}
 Follows a home (Err refusals.UnknownSupi) step = step ≡ Err refusals.UnknownSupi
 Follows a home (Err (refusals.WrongState word)) step = step ≡ Err (refusals.WrongState word)

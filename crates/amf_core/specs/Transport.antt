@@ -6,11 +6,10 @@ use Rattle.nas_base.specs.declared.mm_cause.TheConstants as cause
 use Rattle.nas_security.specs.declared.challenges.Challenge.{Challenge}
 use Rattle.mm_messages.specs.declared.message.Mm.TheVariants as mm
 use Rattle.mm_messages.specs.declared.transport.UlNasTransport.{UlNasTransport}
-use Rattle.amf_core.specs.Work.{ask, say, say_on}
+use Rattle.amf_core.specs.Work.{Work, ask, say, say_on}
 use Rattle.amf_core.specs.declared.acts.Protection.TheVariants.{Ciphered}
 use Rattle.amf_core.specs.declared.outs.SmfAsk.TheVariants.{Frame}
 use Rattle.amf_core.specs.declared.subscriber.Subscriber.{Subscriber}
-use Rattle.amf_core.specs.declared.work.Work.{Work}
 
 -- payload container type 1: N1 SM information (clause 9.11.3.40)
 abbrev pub n1_sm : ℕ

@@ -1,4 +1,4 @@
--- A step while it goes on: the moment and the random octets that it was given, what is kept, and what was said so far.
+-- A step while it goes on.
 use Rattle.std.specs.Prelude.{ℕ, List, [], ◌∷◌, ◌++◌, Option, None}
 use Rattle.nas_base.specs.Branches.{per, when◌then◌else◌}
 use Rattle.nas_timers.specs.Durations.{deadline_after, duration_of}
@@ -6,8 +6,9 @@ use Rattle.nas_timers.specs.declared.timer_id.TimerId.{TimerId}
 use Rattle.milenage.specs.Home.{HomeRecord}
 use Rattle.mm_messages.specs.declared.message.Mm.{Mm}
 use Rattle.mm_messages.specs.declared.message.Mm.TheVariants as mm
-use Rattle.amf_core.specs.Drafts.{by_now, home_by_now, with_home, with_link_record, with_record}
-use Rattle.amf_core.specs.State.{link_in, subscriber_in}
+use Rattle.amf_core.specs.Changes.{CoreState}
+use Rattle.amf_core.specs.State.{AmfState, link_in, subscriber_in, with_link, with_subscriber}
+use Rattle.amf_core.specs.declared.acts.Act.{Act}
 use Rattle.amf_core.specs.declared.acts.Act.TheVariants.{Say, Tell}
 use Rattle.amf_core.specs.declared.acts.Protection.{Protection}
 use Rattle.amf_core.specs.declared.acts.Protection.TheVariants.{Plain, Ciphered}
@@ -17,28 +18,40 @@ use Rattle.amf_core.specs.declared.outs.AmfOut.{AmfOut}
 use Rattle.amf_core.specs.declared.outs.AmfOut.TheVariants.{Smf, Start, Stop}
 use Rattle.amf_core.specs.declared.outs.SmfAsk.{SmfAsk}
 use Rattle.amf_core.specs.declared.subscriber.Subscriber.{Subscriber}
-use Rattle.amf_core.specs.declared.work.Work.{Work}
 
--- the record of a subscriber, as it is by now, and another in its place
+-- the moment and the random octets that the step was given, what is kept by now, and what was said so far
+pub record Work : Type 0 where
+  pub moment : ℕ
+  pub rand : List ℕ
+  pub amf : AmfState
+  pub home : List HomeRecord
+  pub acts : List Act
+
+-- what is worked on, beside what was kept before; a row works on the one and leaves the other
+pub record Working : Type 0 where
+  pub work : Work
+  pub before : CoreState
+
+abbrev pub by : (Work → Work) → Working → Working
+by row w = record w { work = row w.work }
+
+-- the record of a subscriber, and another in its place
 abbrev pub subscriber : List ℕ → Work → Option Subscriber
-subscriber supi w = subscriber_in supi (by_now w.amf).subscribers
+subscriber supi w = subscriber_in supi w.amf.subscribers
 
 unfoldable pub put : Subscriber → Work → Work
-put s w = record w { amf = with_record s w.amf }
+put s w = record w { amf = with_subscriber s w.amf }
 
 -- the record of a link, and another in its place
 abbrev pub link_of : ℕ → Work → Link
-link_of number w = link_in number (by_now w.amf).links
+link_of number w = link_in number w.amf.links
 
 unfoldable pub put_link : Link → Work → Work
-put_link l w = record w { amf = with_link_record l w.amf }
+put_link l w = record w { amf = with_link l w.amf }
 
--- the home network, as it is by now, and as it is from now on
-abbrev pub home_of : Work → List HomeRecord
-home_of w = home_by_now w.amf
-
+-- the home network from now on
 abbrev pub put_home : List HomeRecord → Work → Work
-put_home home w = record w { amf = with_home home w.amf }
+put_home home w = record w { home = home }
 
 -- the subscriber that a link last passed or challenged
 abbrev pub subscriber_of_link : ℕ → Work → Option Subscriber
@@ -79,7 +92,7 @@ answer_for s number message w = say number (by_link (link_of number w) s.supi) m
 
 -- what was configured
 abbrev pub config_of : Work → Configured
-config_of w = w.amf.before.amf.config
+config_of w = w.amf.config
 
 -- a timer of a subscriber is started for its duration, or stopped
 abbrev pub start : TimerId → Subscriber → Work → Work

@@ -1,6 +1,6 @@
 //! A registration that is accepted.
 ghost use Rattle.std.specs.Prelude.{◌≡◌, ◌<◌, ◌^◌, OnOk};
-ghost use Rattle.amf_core.specs.Work.{config_of};
+ghost use Rattle.amf_core.specs.Work.{by, config_of};
 ghost use Rattle.amf_core.specs.Acceptance.{acceptance_ended, acceptance_put, confirmed, is_initial, kept_with, new_guti, offered, opened_acceptance, registration_completed, registration_goes_on, registration_granted, released, tmsi_of, tmsi_taken, told_sessions};
 
 use crate::subscriber::copied_offer;
@@ -110,7 +110,7 @@ impl<'a> Work<'a> {
     // The sessions that the registration leaves are kept, all others released.
     #[tactic(auto, unfolding(nas_base::specs::Branches::chosen, nas_base::specs::Branches::per))]
     fn release(&mut self, whole: &Whole, s: &Subscriber) -> Result<(), Memory>
-        ensures { OnOk result (self.new ≡ released whole.now s.now self.old) }
+        ensures { OnOk result (self.new ≡ by (released whole.now s.now) self.old) }
     {
         if is_initial(whole.registration) {
             return self.ask(SmfAsk::ReleaseAll, s);
@@ -128,7 +128,7 @@ impl<'a> Work<'a> {
         accepting: &Accepting,
         s: Subscriber,
     ) -> Result<(), Memory>
-        ensures { OnOk result (self.new ≡ acceptance_put number accepting.now s self.old) }
+        ensures { OnOk result (self.new ≡ by (acceptance_put number accepting.now s) self.old) }
     {
         self.put(s.copy())?;
         self.send_accept(accepting, number, &s)?;
@@ -137,13 +137,13 @@ impl<'a> Work<'a> {
 
     // A new 5G-GUTI, whose 5G-TMSI is then taken.
     fn next_guti(&mut self) -> Guti
-        requires { self.old.amf.changes.tmsi < 2 ^ 32 }
-        ensures guti { result ≡ new_guti (config_of self.old) (tmsi_of self.old) }
-        ensures taken { self.new ≡ tmsi_taken self.old }
+        requires { self.old.work.amf.tmsi < 2 ^ 32 }
+        ensures guti { result ≡ new_guti (config_of self.old.work) (tmsi_of self.old.work) }
+        ensures taken { self.new ≡ by tmsi_taken self.old }
     {
-        let tmsi = self.amf.tmsi() as u32;
-        let guti = new_guti(self.amf.config(), tmsi);
-        self.amf.take_tmsi();
+        let tmsi = self.tmsi() as u32;
+        let guti = new_guti(self.config(), tmsi);
+        self.take_tmsi();
         guti
     }
 
@@ -156,8 +156,8 @@ impl<'a> Work<'a> {
         challenge: Challenge,
         s: Subscriber,
     ) -> Result<(), Memory>
-        requires { self.old.amf.changes.tmsi < 2 ^ 32 }
-        ensures { OnOk result (self.new ≡ offered number request.now whole.now challenge s self.old) }
+        requires { self.old.work.amf.tmsi < 2 ^ 32 }
+        ensures { OnOk result (self.new ≡ by (offered number request.now whole.now challenge s) self.old) }
     {
         let guti = self.next_guti();
         let accepting = Accepting {
@@ -180,9 +180,9 @@ impl<'a> Work<'a> {
         challenge: Challenge,
         s: Subscriber,
     ) -> Result<(), Memory>
-        ensures { OnOk result (self.new ≡ registration_granted number request.now whole.now challenge s self.old) }
+        ensures { OnOk result (self.new ≡ by (registration_granted number request.now whole.now challenge s) self.old) }
     {
-        if self.amf.tmsi() < NO_TMSI {
+        if self.tmsi() < NO_TMSI {
             return self.offer(number, request, whole, challenge, s);
         }
         self.answer_for(
@@ -204,7 +204,7 @@ impl<'a> Work<'a> {
         context: &Context,
         s: Subscriber,
     ) -> Result<(), Memory>
-        ensures { OnOk result (self.new ≡ registration_goes_on number request.now whole.now context.now s self.old) }
+        ensures { OnOk result (self.new ≡ by (registration_goes_on number request.now whole.now context.now s) self.old) }
     {
         self.release(whole, &s)?;
         self.grant(number, request, whole, context.challenge, s)
@@ -212,7 +212,7 @@ impl<'a> Work<'a> {
 
     // The acceptance ends, if it is still open.
     fn end_acceptance(&mut self, s: Subscriber) -> Result<(), Memory>
-        ensures { OnOk result (self.new ≡ acceptance_ended s.procedure s self.old) }
+        ensures { OnOk result (self.new ≡ by (acceptance_ended s.procedure s) self.old) }
     {
         match &s.procedure {
             Procedure::Accepting(_) => self.end_open(s),
@@ -229,7 +229,7 @@ impl<'a> Work<'a> {
         challenge: &Challenge,
         s: Subscriber,
     ) -> Result<(), Memory>
-        ensures { OnOk result (self.new ≡ registration_completed challenge.now s self.old) }
+        ensures { OnOk result (self.new ≡ by (registration_completed challenge.now s) self.old) }
     {
         let Some(offer) = copied_offer(&s.offered) else {
             return Ok(());

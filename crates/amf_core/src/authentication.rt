@@ -1,6 +1,7 @@
 //! The answers to AUTHENTICATION REQUEST.
 ghost use Rattle.std.specs.Prelude.{◌≡◌, OnOk};
 ghost use Rattle.amf_core.specs.Authentication.{answered, asking_on, authentication_failed, authentication_rejected, challenged_again, commanding, failed_by, is_expected, made, mode_commanded, next_link, responded, resynchronised};
+ghost use Rattle.amf_core.specs.Work.{by};
 
 use crate::challenges::challenge_open;
 use crate::registration::is_on;
@@ -97,7 +98,7 @@ fn next_link(challenging: &Challenging, s: &Subscriber) -> Option<u16>
 impl<'a> Work<'a> {
     // The context is commanded.
     fn command_mode(&mut self, asking: &Asking, s: Subscriber) -> Result<(), Memory>
-        ensures { OnOk result (self.new ≡ mode_commanded asking.now s self.old) }
+        ensures { OnOk result (self.new ≡ by (mode_commanded asking.now s) self.old) }
     {
         let challenging = commanding(asking);
         let s = challenge_open(&challenging, s);
@@ -106,7 +107,7 @@ impl<'a> Work<'a> {
 
     // AUTHENTICATION REJECT; the challenge ends.
     fn reject_authentication(&mut self, number: u16, s: Subscriber) -> Result<(), Memory>
-        ensures { OnOk result (self.new ≡ authentication_rejected number s self.old) }
+        ensures { OnOk result (self.new ≡ by (authentication_rejected number s) self.old) }
     {
         self.end_open(s.copy())?;
         self.answer_for(&s, number, Mm::AuthenticationReject)
@@ -121,7 +122,7 @@ impl<'a> Work<'a> {
         asking: &Asking,
         s: Subscriber,
     ) -> Result<(), Memory>
-        ensures { OnOk result (self.new ≡ answered response.now number asking.now s self.old) }
+        ensures { OnOk result (self.new ≡ by (answered response.now number asking.now s) self.old) }
     {
         if is_expected(&response.res_star, &asking.auth) {
             return self.command_mode(asking, s);
@@ -137,7 +138,7 @@ impl<'a> Work<'a> {
         number: u16,
         s: Subscriber,
     ) -> Result<(), Memory>
-        ensures { OnOk result (self.new ≡ responded response.now number s self.old) }
+        ensures { OnOk result (self.new ≡ by (responded response.now number s) self.old) }
     {
         match asking_on(number, &s.procedure) {
             Some(asking) => self.answered(response, number, &asking, s),
@@ -152,7 +153,7 @@ impl<'a> Work<'a> {
         challenging: &Challenging,
         s: Subscriber,
     ) -> Result<(), Memory>
-        ensures { OnOk result (self.new ≡ challenged_again challenging.now s self.old) }
+        ensures { OnOk result (self.new ≡ by (challenged_again challenging.now s) self.old) }
     {
         let link = next_link(challenging, &s);
         self.challenge(alloc, challenging.purpose.copy(), link, None, s)
@@ -167,10 +168,10 @@ impl<'a> Work<'a> {
         asking: &Asking,
         s: Subscriber,
     ) -> Result<(), Memory>
-        ensures { OnOk result (self.new ≡ resynchronised auts.now asking.now s self.old) }
+        ensures { OnOk result (self.new ≡ by (resynchronised auts.now asking.now s) self.old) }
     {
         let rand = asking.auth.challenge.rand;
-        if self.amf.resync(alloc, &s.supi, &rand, auts)? {
+        if self.resync(alloc, &s.supi, &rand, auts)? {
             return self.challenge_again(alloc, &asking.challenging, s);
         }
         Ok(())
@@ -186,7 +187,7 @@ impl<'a> Work<'a> {
         asking: &Asking,
         s: Subscriber,
     ) -> Result<(), Memory>
-        ensures { OnOk result (self.new ≡ failed_by failure.now number asking.now s self.old) }
+        ensures { OnOk result (self.new ≡ by (failed_by failure.now number asking.now s) self.old) }
     {
         match failure.cause {
             MAC_FAILURE | NON_5G_AUTHENTICATION_UNACCEPTABLE => self.reject_authentication(
@@ -210,7 +211,7 @@ impl<'a> Work<'a> {
         number: u16,
         s: Subscriber,
     ) -> Result<(), Memory>
-        ensures { OnOk result (self.new ≡ authentication_failed failure.now number s self.old) }
+        ensures { OnOk result (self.new ≡ by (authentication_failed failure.now number s) self.old) }
     {
         match asking_on(number, &s.procedure) {
             Some(asking) => self.failed_by(alloc, failure, number, &asking, s),

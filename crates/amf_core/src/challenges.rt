@@ -1,6 +1,7 @@
 //! Challenges: how one starts, what is sent of it, and how a procedure ends.
 ghost use Rattle.std.specs.Prelude.{◌≡◌, ◌^◌, ◌<◌, OnOk};
 ghost use Rattle.amf_core.specs.Challenges.{VectorFits, asked_for, authentication, authentication_request, begun_with, by_vector, capability_of, challenge, challenge_begun, challenge_open, challenge_put, challenge_refused, challenge_sent, chosen_nea, claimed, claimed_one, ended, idle, is_ksi_taken, kamf_of, new_ksi, request_sent, security_mode_command, stopped, told};
+ghost use Rattle.amf_core.specs.Work.{by};
 
 use crate::acts::Protection;
 use crate::work::Work;
@@ -172,7 +173,7 @@ impl<'a> Work<'a> {
     /// The timer of what is open is stopped.
     #[tactic(auto, unfolding(crate::specs::Challenges::stopped))]
     pub fn stop_open(&mut self, s: &Subscriber) -> Result<(), Memory>
-        ensures { OnOk result (self.new ≡ stopped s.now self.old) }
+        ensures { OnOk result (self.new ≡ by (stopped s.now) self.old) }
     {
         match &s.procedure {
             Procedure::Idle => Ok(()),
@@ -185,7 +186,7 @@ impl<'a> Work<'a> {
     /// What is open ends.
     #[tactic(auto, unfolding(crate::specs::Challenges::ended))]
     pub fn end_open(&mut self, s: Subscriber) -> Result<(), Memory>
-        ensures { OnOk result (self.new ≡ ended s self.old) }
+        ensures { OnOk result (self.new ≡ by (ended s) self.old) }
     {
         self.stop_open(&s)?;
         self.put(idle(s))
@@ -198,7 +199,7 @@ impl<'a> Work<'a> {
         number: u16,
         s: &Subscriber,
     ) -> Result<(), Memory>
-        ensures { OnOk result (self.new ≡ request_sent auth.now number s.now self.old) }
+        ensures { OnOk result (self.new ≡ by (request_sent auth.now number s.now) self.old) }
     {
         let message = Mm::AuthenticationRequest(authentication_request(auth));
         self.answer_for(s, number, message)
@@ -207,7 +208,7 @@ impl<'a> Work<'a> {
     // What a challenge waits for the answer to.
     #[tactic(auto, unfolding(crate::specs::Challenges::challenge_sent, nas_base::specs::Branches::per))]
     fn send_challenge(&mut self, challenging: &Challenging, s: &Subscriber) -> Result<(), Memory>
-        ensures { OnOk result (self.new ≡ challenge_sent challenging.now s.now self.old) }
+        ensures { OnOk result (self.new ≡ by (challenge_sent challenging.now s.now) self.old) }
     {
         match &challenging.phase {
             Phase::Auth(auth) => match challenging.link {
@@ -228,7 +229,7 @@ impl<'a> Work<'a> {
 
     /// A challenge stands as the subscriber's procedure, what it waits for is sent, and its timer runs.
     pub fn put_challenge(&mut self, challenging: &Challenging, s: Subscriber) -> Result<(), Memory>
-        ensures { OnOk result (self.new ≡ challenge_put challenging.now s self.old) }
+        ensures { OnOk result (self.new ≡ by (challenge_put challenging.now s) self.old) }
     {
         self.put(s.copy())?;
         self.send_challenge(challenging, &s)?;
@@ -238,7 +239,7 @@ impl<'a> Work<'a> {
     // The subscriber is that of the link which it was last challenged on.
     #[tactic(auto, unfolding(nas_base::specs::Branches::per))]
     fn claim(&mut self, link: Option<u16>, supi: &Supi) -> Result<(), Memory>
-        ensures { OnOk result (self.new ≡ claimed link supi.now self.old) }
+        ensures { OnOk result (self.new ≡ by (claimed link supi.now) self.old) }
     {
         match link {
             Some(number) => self.claim_one(number, supi),
@@ -248,9 +249,9 @@ impl<'a> Work<'a> {
 
     // The same of a link that there is.
     fn claim_one(&mut self, number: u16, supi: &Supi) -> Result<(), Memory>
-        ensures { OnOk result (self.new ≡ claimed_one number supi.now self.old) }
+        ensures { OnOk result (self.new ≡ by (claimed_one number supi.now) self.old) }
     {
-        let mut link = self.amf.link(number);
+        let mut link = self.link(number);
         link.supi = Some(supi.copy());
         self.put_link(link)
     }
@@ -265,9 +266,9 @@ impl<'a> Work<'a> {
         s: Subscriber,
     ) -> Result<(), Memory>
         requires { v.now.sqn < 2 ^ 48 }
-        ensures { OnOk result (self.new ≡ challenge_begun purpose link v.now s self.old) }
+        ensures { OnOk result (self.new ≡ by (challenge_begun purpose link v.now s) self.old) }
     {
-        let auth = authentication(self.amf.config(), v, &s);
+        let auth = authentication(self.config(), v, &s);
         self.begin_with(auth, purpose, link, s)
     }
 
@@ -279,7 +280,7 @@ impl<'a> Work<'a> {
         link: Option<u16>,
         s: Subscriber,
     ) -> Result<(), Memory>
-        ensures { OnOk result (self.new ≡ begun_with auth purpose link s self.old) }
+        ensures { OnOk result (self.new ≡ by (begun_with auth purpose link s) self.old) }
     {
         self.claim(link, &s.supi)?;
         let challenging = Challenging {
@@ -299,7 +300,7 @@ impl<'a> Work<'a> {
     // A challenge that there is no vector for.
     #[tactic(auto, unfolding(nas_base::specs::Branches::per))]
     fn refuse_challenge(&mut self, purpose: &Purpose, link: Option<u16>) -> Result<(), Memory>
-        ensures { OnOk result (self.new ≡ challenge_refused purpose.now link self.old) }
+        ensures { OnOk result (self.new ≡ by (challenge_refused purpose.now link) self.old) }
     {
         match purpose {
             Purpose::Registration(_) => match link {
@@ -320,7 +321,7 @@ impl<'a> Work<'a> {
         s: Subscriber,
     ) -> Result<(), Memory>
         requires { VectorFits answer }
-        ensures { OnOk result (self.new ≡ by_vector answer purpose link capability s self.old) }
+        ensures { OnOk result (self.new ≡ by (by_vector answer purpose link capability s) self.old) }
     {
         match answer {
             Ok(v) => self.begin_challenge(purpose, link, &v, told(capability, idle(s))),
@@ -341,11 +342,10 @@ impl<'a> Work<'a> {
         capability: Option<Capability>,
         s: Subscriber,
     ) -> Result<(), Memory>
-        ensures { OnOk result (self.new ≡ challenge purpose link capability s self.old) }
+        ensures { OnOk result (self.new ≡ by (challenge purpose link capability s) self.old) }
     {
         self.stop_open(&s)?;
-        let rand = self.rand;
-        let answer = self.amf.challenge(alloc, &s.supi, &rand)?;
+        let answer = self.next_vector(alloc, &s.supi)?;
         self.by_vector(answer, purpose, link, capability, s)
     }
 }

@@ -12,9 +12,9 @@ pub struct Before<'a> {
 }
 
 impl<'a> Model for Before<'a> {
-    ghost use Rattle.amf_core.specs.Changes.{BeforeState};
+    ghost use Rattle.amf_core.specs.Changes.{CoreState};
 
-    ghost Value = { BeforeState };
+    ghost Value = { CoreState };
 
     ghost view = { λ b. record { amf = b.amf.now; home = b.home.now } };
 }

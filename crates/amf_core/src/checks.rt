@@ -1,6 +1,7 @@
 //! Octets that pass the check of a context, and what an AMF notes of it.
 ghost use Rattle.std.specs.Prelude.{◌≡◌, [], OnOk, option_map};
 ghost use Rattle.amf_core.specs.Checks.{checked_in_use, checked_pending, noted, opened, passed_in_use, passed_pending, with_count};
+ghost use Rattle.amf_core.specs.Work.{by};
 
 use crate::security_mode::{Commanding, commanding_on};
 use crate::work::Work;
@@ -111,10 +112,10 @@ pub fn checked_pending(
 impl<'a> Work<'a> {
     /// That a message passed is noted.
     pub fn note(&mut self, number: u16, check: &Check) -> Result<(), Memory>
-        ensures { OnOk result (self.new ≡ noted number check.now self.old) }
+        ensures { OnOk result (self.new ≡ by (noted number check.now) self.old) }
     {
         self.put(check.subscriber.copy())?;
-        let mut link = self.amf.link(number);
+        let mut link = self.link(number);
         link.secure = true;
         link.supi = Some(check.subscriber.supi.copy());
         self.put_link(link)?;

@@ -30,9 +30,9 @@ impl<'a> Work<'a> {
     /// The command to authenticate a subscriber.
     #[tactic(auto, unfolding(crate::specs::Commands::authenticate, nas_base::specs::Branches::per))]
     pub fn authenticate(&mut self, alloc: Global, supi: &Supi) -> Result<(), AmfRefusal>
-        ensures { Works self.new result (authenticate supi.now self.old) }
+        ensures { Works self.old self.new result (authenticate supi.now self.old.work) }
     {
-        match self.amf.subscriber(supi.as_slice()) {
+        match self.subscriber(supi.as_slice()) {
             Some(s) => self.authenticate_one(alloc, s),
             None => Err(AmfRefusal::UnknownSupi),
         }
@@ -41,13 +41,12 @@ impl<'a> Work<'a> {
     // The same of a subscriber that is kept.
     #[tactic(auto, unfolding(nas_base::specs::Branches::chosen))]
     fn authenticate_one(&mut self, alloc: Global, s: Subscriber) -> Result<(), AmfRefusal>
-        ensures { Works self.new result (authenticated s self.old) }
+        ensures { Works self.old self.new result (authenticated s self.old.work) }
     {
         if !may_begin(&s) {
             return Err(AmfRefusal::WrongState { state: s.word() });
         }
-        let rand = self.rand;
-        let answer = match self.amf.challenge(alloc, &s.supi, &rand) {
+        let answer = match self.next_vector(alloc, &s.supi) {
             Ok(answer) => answer,
             Err(Memory) => return Err(AmfRefusal::Memory),
         };
@@ -60,9 +59,9 @@ impl<'a> Work<'a> {
     /// The command to de-register a subscriber.
     #[tactic(auto, unfolding(crate::specs::Commands::deregister, nas_base::specs::Branches::per))]
     pub fn deregister_by(&mut self, supi: &Supi) -> Result<(), AmfRefusal>
-        ensures { Works self.new result (deregister supi.now self.old) }
+        ensures { Works self.old self.new result (deregister supi.now self.old.work) }
     {
-        match self.amf.subscriber(supi.as_slice()) {
+        match self.subscriber(supi.as_slice()) {
             Some(s) => self.deregister_one(&s),
             None => Err(AmfRefusal::UnknownSupi),
         }
@@ -71,7 +70,7 @@ impl<'a> Work<'a> {
     // The same of a subscriber that is kept.
     #[tactic(auto, unfolding(nas_base::specs::Branches::chosen))]
     fn deregister_one(&mut self, s: &Subscriber) -> Result<(), AmfRefusal>
-        ensures { Works self.new result (left s.now self.old) }
+        ensures { Works self.old self.new result (left s.now self.old.work) }
     {
         if !may_begin(s) {
             return Err(AmfRefusal::WrongState { state: s.word() });

@@ -2,6 +2,7 @@
 ghost use Rattle.std.specs.Prelude.{◌≡◌, [], drop, slice_index_or, IfOk, Ok, OnOk, option_map};
 ghost use Rattle.mm_messages.specs.Messages.{mm_in};
 ghost use Rattle.amf_core.specs.Delivery.{action, brought_up, by_table, check_of, ciphered, ciphered_for, failed, failed_request, freshened, integrity_protected, is_permitted_type, message_of, named_inside, passed, plain, received, sender, taken, taken_plain, under_either, under_new_context};
+ghost use Rattle.amf_core.specs.Work.{by};
 
 use crate::Subscriber;
 use crate::checks::{Check, checked_in_use, checked_pending};
@@ -89,7 +90,7 @@ impl<'a> Work<'a> {
         fresh: bool,
         octets: &[u8],
     ) -> Result<(), Memory>
-        ensures { OnOk result (self.new ≡ brought_up number fresh octets.now self.old) }
+        ensures { OnOk result (self.new ≡ by (brought_up number fresh octets.now) self.old) }
     {
         self.freshen(fresh, number)?;
         self.received(alloc, number, octets)
@@ -98,7 +99,7 @@ impl<'a> Work<'a> {
     // Octets on their link.
     #[tactic(auto, unfolding(crate::specs::Delivery::received, nas_base::specs::Branches::chosen))]
     fn received(&mut self, alloc: Global, number: u16, octets: &[u8]) -> Result<(), Memory>
-        ensures { OnOk result (self.new ≡ received number octets.now self.old) }
+        ensures { OnOk result (self.new ≡ by (received number octets.now) self.old) }
     {
         if octet_at(octets, 0) != EPD_5GMM || octets.len() > LONGEST {
             return Ok(());
@@ -115,12 +116,12 @@ impl<'a> Work<'a> {
     // The first message of a connection finds its link not secure.
     #[tactic(auto, unfolding(crate::specs::Delivery::freshened, nas_base::specs::Branches::chosen))]
     fn freshen(&mut self, fresh: bool, number: u16) -> Result<(), Memory>
-        ensures { OnOk result (self.new ≡ freshened fresh number self.old) }
+        ensures { OnOk result (self.new ≡ by (freshened fresh number) self.old) }
     {
         if !fresh {
             return Ok(());
         }
-        let mut link = self.amf.link(number);
+        let mut link = self.link(number);
         link.secure = false;
         self.put_link(link)
     }
@@ -128,9 +129,9 @@ impl<'a> Work<'a> {
     // A plain message.
     #[tactic(auto, unfolding(crate::specs::Delivery::plain, nas_base::specs::Branches::chosen))]
     fn plain(&mut self, alloc: Global, number: u16, octets: &[u8]) -> Result<(), Memory>
-        ensures { OnOk result (self.new ≡ plain number octets.now self.old) }
+        ensures { OnOk result (self.new ≡ by (plain number octets.now) self.old) }
     {
-        if self.amf.link(number).secure {
+        if self.link(number).secure {
             return Ok(());
         }
         match decode_mm(alloc, octets) {
@@ -158,7 +159,7 @@ impl<'a> Work<'a> {
     // The subscriber that a frame of header type 1 is checked for.
     #[tactic(auto, unfolding(nas_base::specs::Branches::per))]
     fn sender(&self, number: u16, message: &Option<Mm>) -> Option<Subscriber>
-        ensures { result ≡ sender number message.now self.now }
+        ensures { result ≡ sender number message.now self.now.work }
     {
         match self.named_inside(message) {
             Some(s) => Some(s),
@@ -169,7 +170,7 @@ impl<'a> Work<'a> {
     // The subscriber that a request inside names.
     #[tactic(auto, unfolding(nas_base::specs::Branches::per))]
     fn named_inside(&self, message: &Option<Mm>) -> Option<Subscriber>
-        ensures { result ≡ named_inside message.now self.now }
+        ensures { result ≡ named_inside message.now self.now.work }
     {
         match message {
             Some(Mm::RegistrationRequest(request)) => self.kept_for(&request.identity),
@@ -189,7 +190,7 @@ impl<'a> Work<'a> {
         number: u16,
         octets: &[u8],
     ) -> Result<(), Memory>
-        ensures { OnOk result (self.new ≡ integrity_protected number octets.now self.old) }
+        ensures { OnOk result (self.new ≡ by (integrity_protected number octets.now) self.old) }
     {
         let message = message_in(alloc, inside(octets))?;
         let s = self.sender(number, &message);
@@ -203,9 +204,9 @@ impl<'a> Work<'a> {
     // A frame of header type 1 that failed.
     #[tactic(auto, unfolding(nas_base::specs::Branches::chosen, nas_base::specs::Branches::per))]
     fn failed(&mut self, alloc: Global, number: u16, message: Option<Mm>) -> Result<(), Memory>
-        ensures { OnOk result (self.new ≡ failed number message self.old) }
+        ensures { OnOk result (self.new ≡ by (failed number message) self.old) }
     {
-        if self.amf.link(number).secure {
+        if self.link(number).secure {
             return Ok(());
         }
         match message {
@@ -216,7 +217,7 @@ impl<'a> Work<'a> {
 
     // The request inside it.
     fn failed_request(&mut self, alloc: Global, number: u16, message: Mm) -> Result<(), Memory>
-        ensures { OnOk result (self.new ≡ failed_request number message self.old) }
+        ensures { OnOk result (self.new ≡ by (failed_request number message) self.old) }
     {
         match message {
             Mm::RegistrationRequest(request) => {
@@ -230,7 +231,7 @@ impl<'a> Work<'a> {
     // A frame of header type 2.
     #[tactic(auto, unfolding(crate::specs::Delivery::ciphered, nas_base::specs::Branches::per))]
     fn ciphered(&mut self, alloc: Global, number: u16, octets: &[u8]) -> Result<(), Memory>
-        ensures { OnOk result (self.new ≡ ciphered number octets.now self.old) }
+        ensures { OnOk result (self.new ≡ by (ciphered number octets.now) self.old) }
     {
         let s = self.subscriber_of_link(number);
         let mut out = Writer::new();
@@ -243,7 +244,7 @@ impl<'a> Work<'a> {
     // A frame of header type 4.
     #[tactic(auto, unfolding(crate::specs::Delivery::under_new_context, nas_base::specs::Branches::per))]
     fn under_new_context(&mut self, alloc: Global, number: u16, octets: &[u8]) -> Result<(), Memory>
-        ensures { OnOk result (self.new ≡ under_new_context number octets.now self.old) }
+        ensures { OnOk result (self.new ≡ by (under_new_context number octets.now) self.old) }
     {
         match self.subscriber_of_link(number) {
             Some(s) => self.under_either(alloc, number, octets, s),
@@ -260,7 +261,7 @@ impl<'a> Work<'a> {
         octets: &[u8],
         s: Subscriber,
     ) -> Result<(), Memory>
-        ensures { OnOk result (self.new ≡ under_either number octets.now s self.old) }
+        ensures { OnOk result (self.new ≡ by (under_either number octets.now s) self.old) }
     {
         let mut out = Writer::new();
         match checked_pending(number, octets, &s, &mut out) {
@@ -278,7 +279,7 @@ impl<'a> Work<'a> {
         octets: &[u8],
         s: Subscriber,
     ) -> Result<(), Memory>
-        ensures { OnOk result (self.new ≡ ciphered_for number octets.now s self.old) }
+        ensures { OnOk result (self.new ≡ by (ciphered_for number octets.now s) self.old) }
     {
         let mut out = Writer::new();
         match checked_in_use(number, octets, s, &mut out) {
@@ -296,7 +297,7 @@ impl<'a> Work<'a> {
         octets: &[u8],
         check: Check,
     ) -> Result<(), Memory>
-        ensures { OnOk result (self.new ≡ passed number octets.now check self.old) }
+        ensures { OnOk result (self.new ≡ by (passed number octets.now check) self.old) }
     {
         self.note(number, &check)?;
         match decode_mm(alloc, octets) {
@@ -324,7 +325,7 @@ impl<'a> Work<'a> {
         check: Check,
         message: Mm,
     ) -> Result<(), Memory>
-        ensures { OnOk result (self.new ≡ by_table (action message check.subscriber) number check message self.old) }
+        ensures { OnOk result (self.new ≡ by (by_table (action message check.subscriber) number check message) self.old) }
     {
         let s = &check.subscriber;
         match collide_amf(s.word(), s.registered, kind_of(&message)) {
@@ -340,7 +341,7 @@ impl<'a> Work<'a> {
     // The row of a message that passed.
     #[tactic(auto, unfolding(crate::specs::Delivery::taken, nas_base::specs::Branches::chosen))]
     fn taken(&mut self, alloc: Global, number: u16, check: Check, message: Mm) -> Result<(), Memory>
-        ensures { OnOk result (self.new ≡ taken number check message self.old) }
+        ensures { OnOk result (self.new ≡ by (taken number check message) self.old) }
     {
         let s = check.subscriber;
         match message {
@@ -376,7 +377,7 @@ impl<'a> Work<'a> {
     // The row of a plain message before secure exchange.
     #[tactic(auto, unfolding(crate::specs::Delivery::taken_plain, nas_base::specs::Branches::per))]
     fn taken_plain(&mut self, alloc: Global, number: u16, message: Mm) -> Result<(), Memory>
-        ensures { OnOk result (self.new ≡ taken_plain number message self.old) }
+        ensures { OnOk result (self.new ≡ by (taken_plain number message) self.old) }
     {
         match message {
             Mm::RegistrationRequest(request) => {

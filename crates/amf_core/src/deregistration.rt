@@ -1,6 +1,7 @@
 //! De-registration, by the handset and by the network.
 ghost use Rattle.std.specs.Prelude.{◌≡◌, OnOk};
 ghost use Rattle.amf_core.specs.Deregistration.{deregistered, deregistration_accepted, deregistration_put, deregistration_requested, deregistration_sent, is_deregistering, unregistered};
+ghost use Rattle.amf_core.specs.Work.{by};
 
 use crate::acts::Protection;
 use crate::registration::is_on;
@@ -35,7 +36,7 @@ impl<'a> Work<'a> {
     // Not registered any more.
     #[tactic(auto, unfolding(crate::specs::Deregistration::deregistered))]
     fn deregister(&mut self, s: &Subscriber) -> Result<(), Memory>
-        ensures { OnOk result (self.new ≡ deregistered s.now self.old) }
+        ensures { OnOk result (self.new ≡ by (deregistered s.now) self.old) }
     {
         self.stop_open(s)?;
         self.put(unregistered(s.copy()))?;
@@ -50,7 +51,7 @@ impl<'a> Work<'a> {
         number: u16,
         s: &Subscriber,
     ) -> Result<(), Memory>
-        ensures { OnOk result (self.new ≡ deregistration_requested request.now number s.now self.old) }
+        ensures { OnOk result (self.new ≡ by (deregistration_requested request.now number s.now) self.old) }
     {
         self.deregister(s)?;
         if request.switch_off {
@@ -66,7 +67,7 @@ impl<'a> Work<'a> {
     /// DEREGISTRATION ACCEPT of the handset.
     #[tactic(auto, unfolding(crate::specs::Deregistration::deregistration_accepted, nas_base::specs::Branches::chosen))]
     pub fn deregistration_accepted(&mut self, number: u16, s: &Subscriber) -> Result<(), Memory>
-        ensures { OnOk result (self.new ≡ deregistration_accepted number s.now self.old) }
+        ensures { OnOk result (self.new ≡ by (deregistration_accepted number s.now) self.old) }
     {
         if is_deregistering(&s.procedure) && is_on(number, s.link) {
             return self.deregister(s);
@@ -76,7 +77,7 @@ impl<'a> Work<'a> {
 
     // DEREGISTRATION REQUEST of the network.
     fn send_deregistration(&mut self, s: &Subscriber) -> Result<(), Memory>
-        ensures { OnOk result (self.new ≡ deregistration_sent s.now self.old) }
+        ensures { OnOk result (self.new ≡ by (deregistration_sent s.now) self.old) }
     {
         self.say_on(
             s.link,
@@ -90,7 +91,7 @@ impl<'a> Work<'a> {
 
     /// A de-registration by the network stands as the subscriber's procedure, its request is sent, and its timer runs.
     pub fn put_deregistration(&mut self, sendings: u8, s: &Subscriber) -> Result<(), Memory>
-        ensures { OnOk result (self.new ≡ deregistration_put (record { sendings = sendings }) s.now self.old) }
+        ensures { OnOk result (self.new ≡ by (deregistration_put (record { sendings = sendings }) s.now) self.old) }
     {
         let procedure = Procedure::Deregistering(Deregistering { sendings });
         self.put(Subscriber {

@@ -1,12 +1,12 @@
-//! What a step leaves.
-ghost use Rattle.std.specs.Prelude.{◌≡◌, ◌+◌, ◌<◌, ◌^◌, option_map, IfOk, OnOk};
+//! What a step leaves, while it goes on.
+ghost use Rattle.std.specs.Prelude.{◌≡◌, ◌+◌, ◌<◌, ◌^◌, option_map, IfOk, OnOk, if◌then◌else◌};
+ghost use Rattle.amf_core.specs.Authentication.{is_right};
 ghost use Rattle.amf_core.specs.Challenges.{VectorFits};
-ghost use Rattle.amf_core.specs.Changes.{unchanged};
-ghost use Rattle.amf_core.specs.Drafts.{Resyncs, by_now, home_by_now, with_home, with_link_record, with_next_tmsi, with_record};
+ghost use Rattle.amf_core.specs.Drafts.{drafted};
 ghost use Rattle.amf_core.specs.Keyed.{current, found};
 ghost use Rattle.amf_core.specs.Naming.{keeps_guti, keeps_stmsi};
-ghost use Rattle.amf_core.specs.State.{has_number, is_same_link, is_same_subscriber, link_in, subscriber_in};
-ghost use Rattle.milenage.specs.Home.{challenge_of, challenged};
+ghost use Rattle.amf_core.specs.State.{has_number, is_same_link, is_same_subscriber, link_in, subscriber_in, with_link, with_next_tmsi, with_subscriber};
+ghost use Rattle.milenage.specs.Home.{challenge_of, challenged, resync_of, resynced};
 
 use crate::amf::{newest_link, newest_subscriber};
 use crate::changes::{Before, Changes};
@@ -15,20 +15,52 @@ use milenage::{Home, HomeRefusal, Vector};
 use nas_base::{Memory, Supi};
 use nas_elements::{Guti, Stmsi};
 use std::alloc::Global;
+use std::marker::Model;
 
 /// What a step leaves: what was kept before it, which stays as it is until the step is done, and what it changed. So want of memory leaves
 /// all as before, and a step copies the records alone that it changes. The home network is copied where a challenge starts or an
 /// AUTS comes, and in no other step.
 #[derive(Drop)]
 pub struct Draft<'a> {
-    pub before: Before<'a>,
-    pub changes: Changes,
+    before: Before<'a>,
+    changes: Changes,
+}
+
+impl<'a> Model for Draft<'a> {
+    ghost use Rattle.amf_core.specs.Drafts.{DraftState, drafted};
+
+    ghost Value = { DraftState };
+
+    ghost view = { λ d. drafted d.changes d.before };
+}
+
+impl Changes {
+    // A record as it is by now.
+    fn by_now<'b>(&'b self, kept: &'b Subscriber) -> &'b Subscriber
+        ensures { result.now ≡ current is_same_subscriber self.now.subscribers kept.now }
+    {
+        match newest_subscriber(self.subscribers.as_slice(), kept) {
+            Some(changed) => changed,
+            None => kept,
+        }
+    }
+
+    // A record of a link as it is by now.
+    fn link_by_now<'b>(&'b self, kept: &'b Link) -> &'b Link
+        ensures { result.now ≡ current is_same_link self.now.links kept.now }
+    {
+        match newest_link(self.links.as_slice(), kept) {
+            Some(changed) => changed,
+            None => kept,
+        }
+    }
 }
 
 impl<'a> Draft<'a> {
     /// Nothing is changed.
+    #[tactic(auto, using(crate::proofs::Drafting::unchanged_stay))]
     pub fn new(alloc: Global, amf: &'a Amf, home: &'a Home) -> Draft<'a>
-        ensures { result ≡ record { before = record { amf = amf.now; home = home.now }; changes = unchanged amf.now } }
+        ensures { result ≡ record { amf = amf.now; home = home.now; before = record { amf = amf.now; home = home.now } } }
     {
         Draft {
             before: Before { amf, home },
@@ -41,31 +73,29 @@ impl<'a> Draft<'a> {
         }
     }
 
+    /// What it changed.
+    pub fn changes(self) -> Changes
+        ensures { drafted result self.entry.before ≡ self.entry }
+    {
+        self.changes
+    }
+
     /// What was configured.
     pub fn config(&self) -> &Configured
-        ensures { result.now ≡ self.now.before.amf.config }
+        ensures { result.now ≡ self.now.amf.config }
     {
         let amf = self.before.amf;
         &amf.config
     }
 
-    // A record as it is by now.
-    fn by_now<'b>(&'b self, kept: &'b Subscriber) -> &'b Subscriber
-        ensures { result.now ≡ current is_same_subscriber self.now.changes.subscribers kept.now }
-    {
-        match newest_subscriber(self.changes.subscribers.as_slice(), kept) {
-            Some(changed) => changed,
-            None => kept,
-        }
-    }
-
     /// The record of a subscriber, by the digits of its SUPI.
     pub fn subscriber(&self, supi: &[u8]) -> Option<Subscriber>
-        ensures { result ≡ subscriber_in supi.now (by_now self.now).subscribers }
+        ensures { result ≡ subscriber_in supi.now self.now.amf.subscribers }
     {
         let amf = self.before.amf;
+        let changes = &self.changes;
         for record in amf.subscribers.as_slice() {
-            let by_now = self.by_now(record);
+            let by_now = changes.by_now(record);
             if by_now.supi.as_slice() == supi {
                 return Some(by_now.copy());
             }
@@ -75,11 +105,12 @@ impl<'a> Draft<'a> {
 
     /// The record of the subscriber that a 5G-GUTI is kept for.
     pub fn keeper(&self, guti: &Guti) -> Option<Subscriber>
-        ensures { result ≡ found (keeps_guti guti.now) (by_now self.now).subscribers }
+        ensures { result ≡ found (keeps_guti guti.now) self.now.amf.subscribers }
     {
         let amf = self.before.amf;
+        let changes = &self.changes;
         for record in amf.subscribers.as_slice() {
-            let by_now = self.by_now(record);
+            let by_now = changes.by_now(record);
             if by_now.kept.has(guti) {
                 return Some(by_now.copy());
             }
@@ -89,11 +120,12 @@ impl<'a> Draft<'a> {
 
     /// The record of the subscriber that a 5G-GUTI with this 5G-S-TMSI is kept for.
     pub fn short_keeper(&self, stmsi: &Stmsi) -> Option<Subscriber>
-        ensures { result ≡ found (keeps_stmsi stmsi.now) (by_now self.now).subscribers }
+        ensures { result ≡ found (keeps_stmsi stmsi.now) self.now.amf.subscribers }
     {
         let amf = self.before.amf;
+        let changes = &self.changes;
         for record in amf.subscribers.as_slice() {
-            let by_now = self.by_now(record);
+            let by_now = changes.by_now(record);
             if by_now.kept.has_short(stmsi) {
                 return Some(by_now.copy());
             }
@@ -102,8 +134,9 @@ impl<'a> Draft<'a> {
     }
 
     /// A record takes the place of that of its subscriber.
+    #[tactic(auto, using(crate::proofs::Drafting::subscriber_put))]
     pub fn put(&mut self, subscriber: Subscriber) -> Result<(), Memory>
-        ensures { OnOk result (self.new ≡ with_record subscriber self.old) }
+        ensures { OnOk result (self.new ≡ record self.old { amf = with_subscriber subscriber self.old.amf }) }
     {
         match self.changes.subscribers.insert(0, subscriber) {
             Ok(()) => Ok(()),
@@ -111,20 +144,10 @@ impl<'a> Draft<'a> {
         }
     }
 
-    // A record of a link as it is by now.
-    fn link_by_now<'b>(&'b self, kept: &'b Link) -> &'b Link
-        ensures { result.now ≡ current is_same_link self.now.changes.links kept.now }
-    {
-        match newest_link(self.changes.links.as_slice(), kept) {
-            Some(changed) => changed,
-            None => kept,
-        }
-    }
-
     /// The record of a link.
     #[tactic(auto, unfolding(nas_base::specs::Branches::per))]
     pub fn link(&self, number: u16) -> Link
-        ensures { result ≡ link_in number (by_now self.now).links }
+        ensures { result ≡ link_in number self.now.amf.links }
     {
         match self.found_link(number) {
             Some(link) => link.copy(),
@@ -134,11 +157,12 @@ impl<'a> Draft<'a> {
 
     // The same, if there is one.
     fn found_link(&self, number: u16) -> Option<&Link>
-        ensures { option_map (λ l. l.now) result ≡ found (has_number number) (by_now self.now).links }
+        ensures { option_map (λ l. l.now) result ≡ found (has_number number) self.now.amf.links }
     {
         let amf = self.before.amf;
+        let changes = &self.changes;
         for record in amf.links.as_slice() {
-            let by_now = self.link_by_now(record);
+            let by_now = changes.link_by_now(record);
             if by_now.number == number {
                 return Some(by_now);
             }
@@ -147,8 +171,9 @@ impl<'a> Draft<'a> {
     }
 
     /// A record takes the place of that of its link.
+    #[tactic(auto, using(crate::proofs::Drafting::link_put))]
     pub fn put_link(&mut self, link: Link) -> Result<(), Memory>
-        ensures { OnOk result (self.new ≡ with_link_record link self.old) }
+        ensures { OnOk result (self.new ≡ record self.old { amf = with_link link self.old.amf }) }
     {
         match self.changes.links.insert(0, link) {
             Ok(()) => Ok(()),
@@ -158,22 +183,22 @@ impl<'a> Draft<'a> {
 
     /// The next 5G-TMSI, which is 2^32 where none is left.
     pub fn tmsi(&self) -> u64
-        ensures { result ≡ self.now.changes.tmsi }
+        ensures { result ≡ self.now.amf.tmsi }
     {
         self.changes.tmsi
     }
 
     /// The next 5G-TMSI is taken.
     pub fn take_tmsi(&mut self)
-        requires { self.old.changes.tmsi < 2 ^ 32 }
-        ensures { self.new ≡ with_next_tmsi self.old }
+        requires { self.old.amf.tmsi < 2 ^ 32 }
+        ensures { self.new ≡ record self.old { amf = with_next_tmsi self.old.amf } }
     {
         self.changes.tmsi += 1;
     }
 
     // An equal home network as it is by now.
     fn copied_home(&self, alloc: Global) -> Result<Home, Memory>
-        ensures { IfOk result (λ home. home ≡ home_by_now self.now) }
+        ensures { IfOk result (λ home. home ≡ self.now.home) }
     {
         match &self.changes.home {
             Some(home) => home.copy(alloc),
@@ -189,7 +214,7 @@ impl<'a> Draft<'a> {
         supi: &Supi,
         rand: &[u8; 16],
     ) -> Result<Result<Vector, HomeRefusal>, Memory>
-        ensures value { IfOk result (λ answer. (answer ≡ challenge_of supi.now rand.now (home_by_now self.old)) × (self.new ≡ with_home (challenged supi.now rand.now (home_by_now self.old)) self.old)) }
+        ensures value { IfOk result (λ answer. (answer ≡ challenge_of supi.now rand.now self.old.home) × (self.new ≡ record self.old { home = challenged supi.now rand.now self.old.home })) }
         ensures limit { IfOk result VectorFits }
     {
         let mut home = self.copied_home(alloc)?;
@@ -206,7 +231,8 @@ impl<'a> Draft<'a> {
         rand: &[u8; 16],
         auts: &[u8; 14],
     ) -> Result<bool, Memory>
-        ensures { IfOk result (λ right. Resyncs right supi.now rand.now auts.now self.old self.new) }
+        ensures right { IfOk result (λ right. right ≡ is_right (resync_of supi.now rand.now auts.now self.old.home)) }
+        ensures home { IfOk result (λ right. self.new ≡ (if right then record self.old { home = resynced supi.now rand.now auts.now self.old.home } else self.old)) }
     {
         let mut home = self.copied_home(alloc)?;
         if home.resync(supi, rand, auts).is_err() {

@@ -1,6 +1,7 @@
 //! Timers that expire, what the SMF wants, and links that are lost.
 ghost use Rattle.std.specs.Prelude.{◌≡◌, ◌<◌, OnOk};
 ghost use Rattle.amf_core.specs.Events.{acceptance_again, acceptance_resent, accepting_expired, carried_down, challenge_again, challenging_expired, deregistering_expired, dropped, expired, expired_of, fenced, fenced_of, is_challenged_on, link_lost_of, lost_for, sessions_told, unlinked};
+ghost use Rattle.amf_core.specs.Work.{by};
 
 use crate::acts::Protection;
 use crate::challenges::{challenge_open, idle};
@@ -69,7 +70,7 @@ impl<'a> Work<'a> {
         challenging: &Challenging,
         s: Subscriber,
     ) -> Result<(), Memory>
-        ensures { OnOk result (self.new ≡ challenging_expired challenging.now s self.old) }
+        ensures { OnOk result (self.new ≡ by (challenging_expired challenging.now s) self.old) }
     {
         if challenging.sendings >= SENDINGS {
             return self.put(idle(s));
@@ -81,16 +82,16 @@ impl<'a> Work<'a> {
 
     // REGISTRATION ACCEPT once more.
     fn resend_acceptance(&mut self, accepting: &Accepting, s: &Subscriber) -> Result<(), Memory>
-        ensures { OnOk result (self.new ≡ acceptance_resent accepting.now s.now self.old) }
+        ensures { OnOk result (self.new ≡ by (acceptance_resent accepting.now s.now) self.old) }
     {
-        let message = acceptance(self.amf.config(), accepting, s);
+        let message = acceptance(self.config(), accepting, s);
         self.say_on(s.link, Protection::Ciphered(s.supi.copy()), message)
     }
 
     // T3550 of an acceptance.
     #[tactic(auto, unfolding(nas_base::specs::Branches::chosen))]
     fn accepting_expired(&mut self, accepting: &Accepting, s: Subscriber) -> Result<(), Memory>
-        ensures { OnOk result (self.new ≡ accepting_expired accepting.now s self.old) }
+        ensures { OnOk result (self.new ≡ by (accepting_expired accepting.now s) self.old) }
     {
         if accepting.sendings >= SENDINGS {
             return self.put(idle(s));
@@ -107,7 +108,7 @@ impl<'a> Work<'a> {
     // T3522 of a de-registration.
     #[tactic(auto, unfolding(nas_base::specs::Branches::chosen))]
     fn deregistering_expired(&mut self, sendings: u8, s: &Subscriber) -> Result<(), Memory>
-        ensures { OnOk result (self.new ≡ deregistering_expired (record { sendings = sendings }) s.now self.old) }
+        ensures { OnOk result (self.new ≡ by (deregistering_expired (record { sendings = sendings }) s.now) self.old) }
     {
         if sendings >= SENDINGS {
             self.put(unregistered(s.copy()))?;
@@ -119,7 +120,7 @@ impl<'a> Work<'a> {
     // A timer of a subscriber expired. One whose procedure has ended finds no owner.
     #[tactic(auto, unfolding(crate::specs::Events::expired_of))]
     fn expired_of(&mut self, id: &TimerId, s: Subscriber) -> Result<(), Memory>
-        ensures { OnOk result (self.new ≡ expired_of id.now s self.old) }
+        ensures { OnOk result (self.new ≡ by (expired_of id.now s) self.old) }
     {
         match (id, &s.procedure) {
             (TimerId::T3560, Procedure::Challenging(challenging)) => {
@@ -141,9 +142,9 @@ impl<'a> Work<'a> {
     /// A timer of a subscriber expired.
     #[tactic(auto, unfolding(crate::specs::Events::expired, nas_base::specs::Branches::per))]
     pub fn expired(&mut self, supi: &Supi, id: &TimerId) -> Result<(), Memory>
-        ensures { OnOk result (self.new ≡ expired supi.now id.now self.old) }
+        ensures { OnOk result (self.new ≡ by (expired supi.now id.now) self.old) }
     {
-        match self.amf.subscriber(supi.as_slice()) {
+        match self.subscriber(supi.as_slice()) {
             Some(s) => self.expired_of(id, s),
             None => Ok(()),
         }
@@ -152,7 +153,7 @@ impl<'a> Work<'a> {
     // The SMF wants a security mode procedure.
     #[tactic(auto, unfolding(nas_base::specs::Branches::chosen))]
     fn fence_one(&mut self, alloc: Global, s: Subscriber) -> Result<(), Memory>
-        ensures { OnOk result (self.new ≡ fenced_of s self.old) }
+        ensures { OnOk result (self.new ≡ by (fenced_of s) self.old) }
     {
         if !s.procedure.is_idle() {
             return Ok(());
@@ -163,9 +164,9 @@ impl<'a> Work<'a> {
     /// The SMF wants a security mode procedure of a subscriber.
     #[tactic(auto, unfolding(crate::specs::Events::fenced, nas_base::specs::Branches::per))]
     pub fn fence(&mut self, alloc: Global, supi: &Supi) -> Result<(), Memory>
-        ensures { OnOk result (self.new ≡ fenced supi.now self.old) }
+        ensures { OnOk result (self.new ≡ by (fenced supi.now) self.old) }
     {
-        match self.amf.subscriber(supi.as_slice()) {
+        match self.subscriber(supi.as_slice()) {
             Some(s) => self.fence_one(alloc, s),
             None => Ok(()),
         }
@@ -174,9 +175,9 @@ impl<'a> Work<'a> {
     /// The SMF tells which sessions a subscriber has.
     #[tactic(auto, unfolding(crate::specs::Events::sessions_told, nas_base::specs::Branches::per))]
     pub fn sessions_told(&mut self, supi: &Supi, status: Status) -> Result<(), Memory>
-        ensures { OnOk result (self.new ≡ sessions_told supi.now status self.old) }
+        ensures { OnOk result (self.new ≡ by (sessions_told supi.now status) self.old) }
     {
-        match self.amf.subscriber(supi.as_slice()) {
+        match self.subscriber(supi.as_slice()) {
             Some(s) => self.put(Subscriber { status, ..s }),
             None => Ok(()),
         }
@@ -185,9 +186,9 @@ impl<'a> Work<'a> {
     /// The SMF has a message for the handset of a subscriber.
     #[tactic(auto, unfolding(crate::specs::Events::carried_down, nas_base::specs::Branches::per))]
     pub fn carry_down(&mut self, supi: &Supi, psi: Psi, frame: Octets) -> Result<(), Memory>
-        ensures { OnOk result (self.new ≡ carried_down supi.now psi frame self.old) }
+        ensures { OnOk result (self.new ≡ by (carried_down supi.now psi frame) self.old) }
     {
-        match self.amf.subscriber(supi.as_slice()) {
+        match self.subscriber(supi.as_slice()) {
             Some(s) => self.bring_down(psi, frame, &s),
             None => Ok(()),
         }
@@ -196,7 +197,7 @@ impl<'a> Work<'a> {
     // The link of a subscriber is lost.
     #[tactic(auto, unfolding(nas_base::specs::Branches::chosen))]
     fn lose_link(&mut self, number: u16, s: Subscriber) -> Result<(), Memory>
-        ensures { OnOk result (self.new ≡ link_lost_of number s self.old) }
+        ensures { OnOk result (self.new ≡ by (link_lost_of number s) self.old) }
     {
         if is_challenged_on(number, &s.procedure) {
             return self.end_open(unlinked(number, s));
@@ -207,12 +208,12 @@ impl<'a> Work<'a> {
     // A link is lost that was this subscriber's, if any.
     #[tactic(auto, unfolding(nas_base::specs::Branches::per))]
     fn lose_for(&mut self, supi: &Option<Supi>, number: u16) -> Result<(), Memory>
-        ensures { OnOk result (self.new ≡ lost_for supi.now number self.old) }
+        ensures { OnOk result (self.new ≡ by (lost_for supi.now number) self.old) }
     {
         let Some(supi) = supi else {
             return Ok(());
         };
-        match self.amf.subscriber(supi.as_slice()) {
+        match self.subscriber(supi.as_slice()) {
             Some(s) => self.lose_link(number, s),
             None => Ok(()),
         }
@@ -221,9 +222,9 @@ impl<'a> Work<'a> {
     /// A link is lost.
     #[tactic(auto, unfolding(crate::specs::Events::dropped))]
     pub fn dropped(&mut self, number: u16) -> Result<(), Memory>
-        ensures { OnOk result (self.new ≡ dropped number self.old) }
+        ensures { OnOk result (self.new ≡ by (dropped number) self.old) }
     {
-        let supi = self.amf.link(number).supi;
+        let supi = self.link(number).supi;
         self.put_link(Link::unused(number))?;
         self.lose_for(&supi, number)
     }

@@ -1,7 +1,8 @@
 //! How what is said becomes octets: spelled, and protected under the contexts of the subscribers.
 ghost use Rattle.std.specs.Prelude.{◌≡◌, ◌≤◌, [], OnOk, length};
 ghost use Rattle.mm_messages.specs.Messages.{spelling};
-ghost use Rattle.amf_core.specs.Framing.{IsSpelled, ciphered_for, framed, framed_all, framed_ciphered, framed_plain, framed_with_new_context, sent, under_in_use, under_new};
+ghost use Rattle.amf_core.specs.Framing.{IsSpelled, by, ciphered_for, counted, framed, framed_all, framed_ciphered, framed_out, framed_plain, framed_with_new_context, sent, under_in_use, under_new};
+ghost use Rattle.amf_core.specs.State.{subscriber_in};
 
 use crate::acts::{Act, Acts, Protection};
 use crate::draft::Draft;
@@ -11,21 +12,68 @@ use mm_messages::{Mm, encode_mm};
 use nas_base::{Dir, Memory, Octets, Supi, Writer};
 use nas_security::{Context, Pass, Send, protect};
 use std::alloc::Global;
+use std::marker::Model;
 
 // Octets of a message at most whose frame has 4,096.
 const LONGEST: usize = 4089;
 
 /// The AMF, whose contexts' counts the messages take, and what was sent and told so far.
 #[derive(Drop)]
-pub struct Framed<'a> {
-    pub amf: Draft<'a>,
-    pub outs: AmfOuts,
+pub struct Framing<'a> {
+    core: Draft<'a>,
+    outs: AmfOuts,
 }
 
-impl<'a> Framed<'a> {
+impl<'a> Model for Framing<'a> {
+    ghost use Rattle.amf_core.specs.Framing as states;
+
+    ghost Value = { states.Framing };
+
+    ghost view = { λ f. record { framed = record { amf = f.core.amf; outs = f.outs }; home = f.core.home; before = f.core.before } };
+}
+
+impl<'a> Framing<'a> {
+    /// Nothing is sent yet.
+    pub fn new(alloc: Global, core: Draft<'a>) -> Framing<'a>
+        ensures { result ≡ record { framed = record { amf = core.entry.amf; outs = [] }; home = core.entry.home; before = core.entry.before } }
+    {
+        Framing {
+            core,
+            outs: AmfOuts::new(alloc),
+        }
+    }
+
+    /// What it leaves, and what goes out.
+    pub fn end(self) -> (Draft<'a>, AmfOuts)
+        ensures { result ≡ (record { amf = self.entry.framed.amf; home = self.entry.home; before = self.entry.before }, self.entry.framed.outs) }
+    {
+        (self.core, self.outs)
+    }
+
+    // The record of a subscriber, by the digits of its SUPI.
+    fn subscriber(&self, supi: &[u8]) -> Option<Subscriber>
+        ensures { result ≡ subscriber_in supi.now self.now.framed.amf.subscribers }
+    {
+        self.core.subscriber(supi)
+    }
+
+    // A record whose count was taken takes the place of that of its subscriber.
+    fn put(&mut self, subscriber: Subscriber) -> Result<(), Memory>
+        ensures { OnOk result (self.new ≡ by (counted subscriber) self.old) }
+    {
+        self.core.put(subscriber)
+    }
+
+    // One more goes out.
+    fn push(&mut self, alloc: Global, out: AmfOut) -> Result<(), Memory>
+        ensures { OnOk result (self.new ≡ by (framed_out out) self.old) }
+    {
+        self.outs.push(alloc, out)
+    }
+
     /// What was said, one after the other.
     pub fn all(&mut self, alloc: Global, acts: Acts) -> Result<(), Memory>
-        ensures { OnOk result (self.new ≡ framed_all acts self.old) }
+        ensures { OnOk result (self.new ≡ by (framed_all acts) self.old) }
     {
         for act in acts.items {
             self.one(alloc, act)?;
@@ -36,10 +84,10 @@ impl<'a> Framed<'a> {
     // One thing that was said.
     #[tactic(auto, unfolding(crate::specs::Framing::framed))]
     fn one(&mut self, alloc: Global, act: Act) -> Result<(), Memory>
-        ensures { OnOk result (self.new ≡ framed act self.old) }
+        ensures { OnOk result (self.new ≡ by (framed act) self.old) }
     {
         match act {
-            Act::Tell(out) => self.outs.push(alloc, out),
+            Act::Tell(out) => self.push(alloc, out),
             Act::Say {
                 link,
                 protection,
@@ -57,7 +105,7 @@ impl<'a> Framed<'a> {
     // A plain message.
     #[tactic(auto, unfolding(nas_base::specs::Branches::chosen))]
     fn plain(&mut self, alloc: Global, link: u16, message: &Mm) -> Result<(), Memory>
-        ensures { OnOk result (self.new ≡ framed_plain link (spelling message.now) self.old) }
+        ensures { OnOk result (self.new ≡ by (framed_plain link (spelling message.now)) self.old) }
     {
         let mut out = Writer::new();
         if !spelled(message, &mut out) {
@@ -75,9 +123,9 @@ impl<'a> Framed<'a> {
         supi: &Supi,
         message: &Mm,
     ) -> Result<(), Memory>
-        ensures { OnOk result (self.new ≡ framed_ciphered link supi.now (spelling message.now) self.old) }
+        ensures { OnOk result (self.new ≡ by (framed_ciphered link supi.now (spelling message.now)) self.old) }
     {
-        match self.amf.subscriber(supi.as_slice()) {
+        match self.subscriber(supi.as_slice()) {
             Some(s) => self.ciphered_for(alloc, link, message, s),
             None => self.plain(alloc, link, message),
         }
@@ -92,7 +140,7 @@ impl<'a> Framed<'a> {
         message: &Mm,
         s: Subscriber,
     ) -> Result<(), Memory>
-        ensures { OnOk result (self.new ≡ ciphered_for link (spelling message.now) s self.old) }
+        ensures { OnOk result (self.new ≡ by (ciphered_for link (spelling message.now) s) self.old) }
     {
         match s.in_use {
             Some(context) => self.under_in_use(alloc, link, message, context, s),
@@ -110,7 +158,7 @@ impl<'a> Framed<'a> {
         context: Context,
         s: Subscriber,
     ) -> Result<(), Memory>
-        ensures { OnOk result (self.new ≡ under_in_use link (spelling message.now) context s self.old) }
+        ensures { OnOk result (self.new ≡ by (under_in_use link (spelling message.now) context s) self.old) }
     {
         let mut plain = Writer::new();
         if !spelled(message, &mut plain) {
@@ -127,7 +175,7 @@ impl<'a> Framed<'a> {
             challenge,
             count,
         };
-        self.amf.put(Subscriber {
+        self.put(Subscriber {
             in_use: Some(context),
             ..s
         })?;
@@ -143,9 +191,9 @@ impl<'a> Framed<'a> {
         supi: &Supi,
         message: &Mm,
     ) -> Result<(), Memory>
-        ensures { OnOk result (self.new ≡ framed_with_new_context link supi.now (spelling message.now) self.old) }
+        ensures { OnOk result (self.new ≡ by (framed_with_new_context link supi.now (spelling message.now)) self.old) }
     {
-        let Some(s) = self.amf.subscriber(supi.as_slice()) else {
+        let Some(s) = self.subscriber(supi.as_slice()) else {
             return Ok(());
         };
         match commanding_of(&s.procedure) {
@@ -164,7 +212,7 @@ impl<'a> Framed<'a> {
         commanding: &Commanding,
         s: Subscriber,
     ) -> Result<(), Memory>
-        ensures { OnOk result (self.new ≡ under_new link (spelling message.now) commanding.now s self.old) }
+        ensures { OnOk result (self.new ≡ by (under_new link (spelling message.now) commanding.now s) self.old) }
     {
         let mut plain = Writer::new();
         if !spelled(message, &mut plain) {
@@ -187,7 +235,7 @@ impl<'a> Framed<'a> {
             phase: Phase::Mode(context),
             sendings: commanding.challenging.sendings,
         };
-        self.amf.put(Subscriber {
+        self.put(Subscriber {
             procedure: Procedure::Challenging(challenging),
             ..s
         })?;
@@ -203,7 +251,7 @@ impl<'a> Framed<'a> {
         pass: Option<Pass>,
     ) -> Result<(), Memory>
         requires { length octets.now ≤ 4100 }
-        ensures { OnOk result (self.new ≡ sent link octets.now pass self.old) }
+        ensures { OnOk result (self.new ≡ by (sent link octets.now pass) self.old) }
     {
         let Ok(octets) = Octets::copy(alloc, octets) else {
             return Err(Memory);
@@ -214,7 +262,7 @@ impl<'a> Framed<'a> {
             octets,
             pass,
         };
-        self.outs.push(alloc, AmfOut::Send(send))
+        self.push(alloc, AmfOut::Send(send))
     }
 }
 

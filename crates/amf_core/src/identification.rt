@@ -1,6 +1,7 @@
 //! IDENTITY RESPONSE.
 ghost use Rattle.std.specs.Prelude.{◌≡◌, OnOk};
 ghost use Rattle.amf_core.specs.Identification.{identity_told, suci_told, waited};
+ghost use Rattle.amf_core.specs.Work.{by};
 
 use crate::Request;
 use crate::work::Work;
@@ -18,10 +19,10 @@ impl<'a> Work<'a> {
         suci: &Suci,
         request: Request,
     ) -> Result<(), Memory>
-        ensures { OnOk result (self.new ≡ waited number suci.now request self.old) }
+        ensures { OnOk result (self.new ≡ by (waited number suci.now request) self.old) }
     {
         let s = self.named_by_suci(suci);
-        let mut link = self.amf.link(number);
+        let mut link = self.link(number);
         link.waiting = None;
         self.put_link(link)?;
         self.request_by_suci(alloc, number, &None, request, s)
@@ -30,9 +31,9 @@ impl<'a> Work<'a> {
     // A SUCI was told.
     #[tactic(auto, unfolding(nas_base::specs::Branches::per))]
     fn suci_told(&mut self, alloc: Global, number: u16, suci: &Suci) -> Result<(), Memory>
-        ensures { OnOk result (self.new ≡ suci_told number suci.now self.old) }
+        ensures { OnOk result (self.new ≡ by (suci_told number suci.now) self.old) }
     {
-        match self.amf.link(number).waiting {
+        match self.link(number).waiting {
             Some(request) => self.go_on(alloc, number, suci, request),
             None => Ok(()),
         }
@@ -46,7 +47,7 @@ impl<'a> Work<'a> {
         response: &IdentityResponse,
         number: u16,
     ) -> Result<(), Memory>
-        ensures { OnOk result (self.new ≡ identity_told response.now number self.old) }
+        ensures { OnOk result (self.new ≡ by (identity_told response.now number) self.old) }
     {
         match &response.identity {
             Identity::Suci(suci) => self.suci_told(alloc, number, suci),

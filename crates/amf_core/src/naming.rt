@@ -1,6 +1,6 @@
 //! Whom an identity names.
 ghost use Rattle.std.specs.Prelude.{◌≡◌};
-ghost use Rattle.amf_core.specs.Naming.{is_kept_for_another, keeper, kept_for, named_by_suci, suci_digits};
+ghost use Rattle.amf_core.specs.Naming.{is_kept_for_another, kept_for, named_by_suci, suci_digits};
 
 use crate::work::Work;
 use crate::{Amf, Subscriber};
@@ -23,25 +23,18 @@ pub fn suci_digits(suci: &Suci) -> ArrayVec<u8, 16>
 impl<'a> Work<'a> {
     /// The subscriber that a SUCI names.
     pub fn named_by_suci(&self, suci: &Suci) -> Option<Subscriber>
-        ensures { result ≡ named_by_suci suci.now self.now }
+        ensures { result ≡ named_by_suci suci.now self.now.work }
     {
-        self.amf.subscriber(suci_digits(suci).as_slice())
-    }
-
-    /// The subscriber that a 5G-GUTI is kept for.
-    pub fn keeper(&self, guti: &Guti) -> Option<Subscriber>
-        ensures { result ≡ keeper guti.now self.now }
-    {
-        self.amf.keeper(guti)
+        self.subscriber(suci_digits(suci).as_slice())
     }
 
     /// The subscriber that an identity is kept for.
     pub fn kept_for(&self, identity: &Identity) -> Option<Subscriber>
-        ensures { result ≡ kept_for identity.now self.now }
+        ensures { result ≡ kept_for identity.now self.now.work }
     {
         match identity {
-            Identity::Guti(guti) => self.amf.keeper(guti),
-            Identity::Stmsi(stmsi) => self.amf.short_keeper(stmsi),
+            Identity::Guti(guti) => self.keeper(guti),
+            Identity::Stmsi(stmsi) => self.short_keeper(stmsi),
             Identity::Suci(_) | Identity::Other(_) => None,
         }
     }

@@ -2,6 +2,7 @@
 ghost use Rattle.std.specs.Prelude.{◌≡◌, OnOk};
 ghost use Rattle.amf_core.specs.Naming.{keeper, named_by_suci};
 ghost use Rattle.amf_core.specs.Registration.{accept, accept_sent, acceptance, counting_capability, equal_acceptance, identity_wanted, is_capable, is_emergency, is_enough, is_granted, is_on, is_periodic, is_purpose, is_running, kept, periodic_accepted, registration_requested, request_by_guti, request_by_identity, request_by_suci, request_weighed, requested};
+ghost use Rattle.amf_core.specs.Work.{by};
 
 use crate::acts::Protection;
 use crate::requests::{copied, copied_suci};
@@ -183,17 +184,17 @@ impl<'a> Work<'a> {
         number: u16,
         s: &Subscriber,
     ) -> Result<(), Memory>
-        ensures { OnOk result (self.new ≡ accept_sent accepting.now number s.now self.old) }
+        ensures { OnOk result (self.new ≡ by (accept_sent accepting.now number s.now) self.old) }
     {
-        let message = acceptance(self.amf.config(), accepting, s);
+        let message = acceptance(self.config(), accepting, s);
         self.say(number, Protection::Ciphered(s.supi.copy()), message)
     }
 
     // REGISTRATION ACCEPT of a periodic request.
     fn accept_periodic(&mut self, number: u16, s: &Subscriber) -> Result<(), Memory>
-        ensures { OnOk result (self.new ≡ periodic_accepted number s.now self.old) }
+        ensures { OnOk result (self.new ≡ by (periodic_accepted number s.now) self.old) }
     {
-        let message = accept(self.amf.config(), &s.slices, None, None);
+        let message = accept(self.config(), &s.slices, None, None);
         self.say(number, Protection::Ciphered(s.supi.copy()), message)
     }
 
@@ -207,7 +208,7 @@ impl<'a> Work<'a> {
         request: Request,
         s: Subscriber,
     ) -> Result<(), Memory>
-        ensures { OnOk result (self.new ≡ request_weighed number passed.now request s self.old) }
+        ensures { OnOk result (self.new ≡ by (request_weighed number passed.now request s) self.old) }
     {
         if is_running(number, &request, &s.procedure) {
             return Ok(());
@@ -238,7 +239,7 @@ impl<'a> Work<'a> {
         request: Request,
         s: Subscriber,
     ) -> Result<(), Memory>
-        ensures { OnOk result (self.new ≡ requested number passed.now request s self.old) }
+        ensures { OnOk result (self.new ≡ by (requested number passed.now request s) self.old) }
     {
         if !is_capable(&request, &s) {
             return self.reject(number, UE_SECURITY_CAPABILITIES_MISMATCH);
@@ -248,9 +249,9 @@ impl<'a> Work<'a> {
 
     // A request waits for the identity of who sent it, which is asked for.
     fn want_identity(&mut self, number: u16, request: Request) -> Result<(), Memory>
-        ensures { OnOk result (self.new ≡ identity_wanted number request self.old) }
+        ensures { OnOk result (self.new ≡ by (identity_wanted number request) self.old) }
     {
-        let mut link = self.amf.link(number);
+        let mut link = self.link(number);
         link.waiting = Some(request);
         self.put_link(link)?;
         self.answer(
@@ -271,7 +272,7 @@ impl<'a> Work<'a> {
         request: Request,
         s: Option<Subscriber>,
     ) -> Result<(), Memory>
-        ensures { OnOk result (self.new ≡ request_by_suci number passed.now request s self.old) }
+        ensures { OnOk result (self.new ≡ by (request_by_suci number passed.now request s) self.old) }
     {
         match s {
             Some(s) => self.requested(alloc, number, passed, request, s),
@@ -289,7 +290,7 @@ impl<'a> Work<'a> {
         request: Request,
         s: Option<Subscriber>,
     ) -> Result<(), Memory>
-        ensures { OnOk result (self.new ≡ request_by_guti number passed.now request s self.old) }
+        ensures { OnOk result (self.new ≡ by (request_by_guti number passed.now request s) self.old) }
     {
         match s {
             Some(s) => self.requested(alloc, number, passed, request, s),
@@ -306,7 +307,7 @@ impl<'a> Work<'a> {
         request: Request,
         suci: &Suci,
     ) -> Result<(), Memory>
-        ensures { OnOk result (self.new ≡ request_by_suci number passed.now request (named_by_suci suci.now self.old) self.old) }
+        ensures { OnOk result (self.new ≡ by (request_by_suci number passed.now request (named_by_suci suci.now self.old.work)) self.old) }
     {
         let s = self.named_by_suci(suci);
         self.request_by_suci(alloc, number, passed, request, s)
@@ -321,7 +322,7 @@ impl<'a> Work<'a> {
         request: Request,
         guti: &Guti,
     ) -> Result<(), Memory>
-        ensures { OnOk result (self.new ≡ request_by_guti number passed.now request (keeper guti.now self.old) self.old) }
+        ensures { OnOk result (self.new ≡ by (request_by_guti number passed.now request (keeper guti.now self.old.work)) self.old) }
     {
         let s = self.keeper(guti);
         self.request_by_guti(alloc, number, passed, request, s)
@@ -335,7 +336,7 @@ impl<'a> Work<'a> {
         number: u16,
         passed: &Option<Supi>,
     ) -> Result<(), Memory>
-        ensures { OnOk result (self.new ≡ request_by_identity request.now.identity request.now number passed.now self.old) }
+        ensures { OnOk result (self.new ≡ by (request_by_identity request.now.identity request.now number passed.now) self.old) }
     {
         match &request.identity {
             Identity::Suci(suci) => {
@@ -361,7 +362,7 @@ impl<'a> Work<'a> {
         number: u16,
         passed: &Option<Supi>,
     ) -> Result<(), Memory>
-        ensures { OnOk result (self.new ≡ registration_requested request.now number passed.now self.old) }
+        ensures { OnOk result (self.new ≡ by (registration_requested request.now number passed.now) self.old) }
     {
         if is_emergency(request.registration) {
             return self.reject(number, PROTOCOL_ERROR_UNSPECIFIED);

@@ -1,6 +1,7 @@
 //! The answers to SECURITY MODE COMMAND.
 ghost use Rattle.std.specs.Prelude.{◌≡◌, Ok, IfOk, OnOk};
 ghost use Rattle.amf_core.specs.SecurityMode.{commanding_of, commanding_on, completed, goes_on, in_use, mode_completed, mode_rejected, switched, whole_by, whole_in, whole_of, whole_with};
+ghost use Rattle.amf_core.specs.Work.{by};
 
 use crate::acceptance::Whole;
 use crate::naming::suci_digits;
@@ -123,7 +124,7 @@ impl<'a> Work<'a> {
     /// SECURITY MODE REJECT.
     #[tactic(auto, unfolding(crate::specs::SecurityMode::mode_rejected, nas_base::specs::Branches::per))]
     pub fn mode_rejected(&mut self, number: u16, s: Subscriber) -> Result<(), Memory>
-        ensures { OnOk result (self.new ≡ mode_rejected number s self.old) }
+        ensures { OnOk result (self.new ≡ by (mode_rejected number s) self.old) }
     {
         match commanding_on(number, &s.procedure) {
             Some(_) => self.end_open(s),
@@ -133,7 +134,7 @@ impl<'a> Work<'a> {
 
     // The context is in use from now on.
     fn switch(&mut self, commanding: &Commanding, s: &Subscriber) -> Result<(), Memory>
-        ensures { OnOk result (self.new ≡ switched commanding.now s.now self.old) }
+        ensures { OnOk result (self.new ≡ by (switched commanding.now s.now) self.old) }
     {
         self.stop_open(s)?;
         self.put(in_use(commanding.context, s.copy()))?;
@@ -150,7 +151,7 @@ impl<'a> Work<'a> {
         context: &Context,
         s: Subscriber,
     ) -> Result<(), Memory>
-        ensures { OnOk result (self.new ≡ goes_on purpose.now whole number context.now s self.old) }
+        ensures { OnOk result (self.new ≡ by (goes_on purpose.now whole number context.now s) self.old) }
     {
         match (purpose, whole) {
             (Purpose::Registration(request), Some(whole)) => self.registration_goes_on(
@@ -169,7 +170,7 @@ impl<'a> Work<'a> {
         commanding: &Commanding,
         s: Subscriber,
     ) -> Result<(), Memory>
-        ensures { OnOk result (self.new ≡ completed complete.now number commanding.now s self.old) }
+        ensures { OnOk result (self.new ≡ by (completed complete.now number commanding.now s) self.old) }
     {
         let whole = whole_in(alloc, &complete.message, &s)?;
         self.switch(commanding, &s)?;
@@ -192,7 +193,7 @@ impl<'a> Work<'a> {
         number: u16,
         s: Subscriber,
     ) -> Result<(), Memory>
-        ensures { OnOk result (self.new ≡ mode_completed complete.now number s self.old) }
+        ensures { OnOk result (self.new ≡ by (mode_completed complete.now number s) self.old) }
     {
         match commanding_of(&s.procedure) {
             Some(commanding) => self.completed(alloc, complete, number, &commanding, s),

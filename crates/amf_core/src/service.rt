@@ -1,6 +1,7 @@
 //! SERVICE REQUEST.
 ghost use Rattle.std.specs.Prelude.{◌≡◌, OnOk};
 ghost use Rattle.amf_core.specs.Service.{service_accept, service_refused, service_reject, service_requested};
+ghost use Rattle.amf_core.specs.Work.{by};
 
 use crate::Subscriber;
 use crate::acts::Protection;
@@ -30,7 +31,7 @@ impl<'a> Work<'a> {
     /// SERVICE REQUEST that passed.
     #[tactic(auto, unfolding(crate::specs::Service::service_requested, nas_base::specs::Branches::chosen))]
     pub fn service_requested(&mut self, number: u16, s: &Subscriber) -> Result<(), Memory>
-        ensures { OnOk result (self.new ≡ service_requested number s.now self.old) }
+        ensures { OnOk result (self.new ≡ by (service_requested number s.now) self.old) }
     {
         if s.registered {
             return self.say(
@@ -45,7 +46,7 @@ impl<'a> Work<'a> {
     /// SERVICE REQUEST that didn't pass, before secure exchange.
     #[tactic(auto, unfolding(crate::specs::Service::service_refused))]
     pub fn service_refused(&mut self, number: u16) -> Result<(), Memory>
-        ensures { OnOk result (self.new ≡ service_refused number self.old) }
+        ensures { OnOk result (self.new ≡ by (service_refused number) self.old) }
     {
         self.answer(
             number,

@@ -4,12 +4,11 @@ ghost use Rattle.amf_core.specs.Changes.{changed, home_now};
 ghost use Rattle.amf_core.specs.Events.{carried_down};
 ghost use Rattle.amf_core.specs.Outcome.{Works};
 ghost use Rattle.amf_core.specs.Step.{Follows, Steps, step_of, worked};
+ghost use Rattle.amf_core.specs.Work.{by};
 
-use crate::acts::Acts;
 use crate::changes::Changes;
 use crate::commands::unrefused;
-use crate::draft::Draft;
-use crate::framing::Framed;
+use crate::framing::Framing;
 use crate::work::Work;
 use crate::{Amf, AmfInput, AmfOuts, AmfRefusal};
 use milenage::Home;
@@ -19,8 +18,8 @@ use std::alloc::Global;
 /// What a step changes, and what goes out.
 #[derive(Drop)]
 pub struct Done {
-    pub changes: Changes,
-    pub outs: AmfOuts,
+    changes: Changes,
+    outs: AmfOuts,
 }
 
 /// One step of an AMF: the row of an input at a moment; a challenge that starts in it has this RAND. `home` keeps each SUPI that `amf` keeps
@@ -46,6 +45,13 @@ pub fn step(
 }
 
 impl Done {
+    /// What goes out.
+    pub fn outs(&self) -> &AmfOuts
+        ensures { result.now ≡ self.now.outs }
+    {
+        &self.outs
+    }
+
     /// Takes the changes over, and answers what goes out. It takes no memory.
     pub fn take_over(self, amf: &mut Amf, home: &mut Home) -> AmfOuts
         ensures amf { amf.new ≡ changed self.changes amf.old }
@@ -84,22 +90,18 @@ pub fn follow(
 ) -> Result<Done, AmfRefusal>
     ensures { Follows amf.now home.now result (step_of amf.now home.now now rand.now input.now) }
 {
-    let mut work = Work {
-        moment: now,
-        rand: *rand,
-        amf: Draft::new(alloc, amf, home),
-        acts: Acts::new(alloc),
-    };
+    let mut work = Work::new(alloc, amf, home, now, rand);
     work.by_input(alloc, input)?;
-    let mut framing = Framed {
-        amf: work.amf,
-        outs: AmfOuts::new(alloc),
-    };
-    match framing.all(alloc, work.acts) {
-        Ok(()) => Ok(Done {
-            changes: framing.amf.changes,
-            outs: framing.outs,
-        }),
+    let (core, acts) = work.end();
+    let mut framing = Framing::new(alloc, core);
+    match framing.all(alloc, acts) {
+        Ok(()) => {
+            let (core, outs) = framing.end();
+            Ok(Done {
+                changes: core.changes(),
+                outs,
+            })
+        }
         Err(Memory) => Err(AmfRefusal::Memory),
     }
 }
@@ -108,7 +110,7 @@ impl<'a> Work<'a> {
     // The row of an input.
     #[tactic(auto, unfolding(crate::specs::Step::worked))]
     fn by_input(&mut self, alloc: Global, input: &AmfInput) -> Result<(), AmfRefusal>
-        ensures { Works self.new result (worked input.now self.old) }
+        ensures { Works self.old self.new result (worked input.now self.old.work) }
     {
         let done = match input {
             AmfInput::Authenticate(supi) => return self.authenticate(alloc, supi),
@@ -135,7 +137,7 @@ impl<'a> Work<'a> {
         psi: Psi,
         frame: &Octets,
     ) -> Result<(), Memory>
-        ensures { OnOk result (self.new ≡ carried_down supi.now psi frame.now self.old) }
+        ensures { OnOk result (self.new ≡ by (carried_down supi.now psi frame.now) self.old) }
     {
         match Octets::copy(alloc, frame.as_slice()) {
             Ok(frame) => self.carry_down(supi, psi, frame),

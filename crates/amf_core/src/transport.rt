@@ -1,6 +1,7 @@
 //! The transport of 5GSM messages.
 ghost use Rattle.std.specs.Prelude.{◌≡◌, OnOk};
 ghost use Rattle.amf_core.specs.Transport.{brought_down, not_forwarded, session_of, transported};
+ghost use Rattle.amf_core.specs.Work.{by};
 
 use crate::acts::Protection;
 use crate::work::Work;
@@ -36,7 +37,7 @@ impl<'a> Work<'a> {
         number: u16,
         s: &Subscriber,
     ) -> Result<(), Memory>
-        ensures { OnOk result (self.new ≡ not_forwarded transport number s.now self.old) }
+        ensures { OnOk result (self.new ≡ by (not_forwarded transport number s.now) self.old) }
     {
         self.say(
             number,
@@ -59,7 +60,7 @@ impl<'a> Work<'a> {
         challenge: Challenge,
         s: &Subscriber,
     ) -> Result<(), Memory>
-        ensures { OnOk result (self.new ≡ transported transport number challenge s.now self.old) }
+        ensures { OnOk result (self.new ≡ by (transported transport number challenge s.now) self.old) }
     {
         let Some(psi) = session_of(transport.container_type, transport.psi) else {
             return self.not_forwarded(transport, number, s);
@@ -79,7 +80,7 @@ impl<'a> Work<'a> {
     /// DL NAS TRANSPORT with a 5GSM message of the SMF.
     #[tactic(auto, unfolding(crate::specs::Transport::brought_down))]
     pub fn bring_down(&mut self, psi: Psi, frame: Octets, s: &Subscriber) -> Result<(), Memory>
-        ensures { OnOk result (self.new ≡ brought_down psi frame s.now self.old) }
+        ensures { OnOk result (self.new ≡ by (brought_down psi frame s.now) self.old) }
     {
         self.say_on(
             s.link,

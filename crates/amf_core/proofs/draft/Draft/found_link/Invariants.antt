@@ -6,5 +6,5 @@ use Rattle.amf_core.proofs.draft.Draft.found_link.Given as goal
 -- the records that are left have the link's by now, if any has
 abbrev pub invariant-loop-record : goal.invariant-loop-record
 invariant-loop-record l =
-    found (has_number l.number) (all_current is_same_link l.self.changes.links (drop l.record-index l.record-items))
-    ≡ found (has_number l.number) (all_current is_same_link l.self.changes.links l.record-items)
+    found (has_number l.number) (all_current is_same_link l.changes.links (drop l.record-index l.record-items))
+    ≡ found (has_number l.number) (all_current is_same_link l.changes.links l.record-items)

@@ -7,5 +7,5 @@ use Rattle.amf_core.proofs.draft.Draft.short_keeper.Given as goal
 -- the records that are left have the keeper's by now, if any has
 abbrev pub invariant-loop-record : goal.invariant-loop-record
 invariant-loop-record l =
-    found (keeps_stmsi l.stmsi) (all_current is_same_subscriber l.self.changes.subscribers (drop l.record-index l.record-items))
-    ≡ found (keeps_stmsi l.stmsi) (all_current is_same_subscriber l.self.changes.subscribers l.record-items)
+    found (keeps_stmsi l.stmsi) (all_current is_same_subscriber l.changes.subscribers (drop l.record-index l.record-items))
+    ≡ found (keeps_stmsi l.stmsi) (all_current is_same_subscriber l.changes.subscribers l.record-items)

@@ -6,5 +6,5 @@ use Rattle.amf_core.proofs.draft.Draft.subscriber.Given as goal
 -- the records that are left have the subscriber's by now, if any has
 abbrev pub invariant-loop-record : goal.invariant-loop-record
 invariant-loop-record l =
-    found (has_supi l.supi) (all_current is_same_subscriber l.self.changes.subscribers (drop l.record-index l.record-items))
-    ≡ found (has_supi l.supi) (all_current is_same_subscriber l.self.changes.subscribers l.record-items)
+    found (has_supi l.supi) (all_current is_same_subscriber l.changes.subscribers (drop l.record-index l.record-items))
+    ≡ found (has_supi l.supi) (all_current is_same_subscriber l.changes.subscribers l.record-items)

@@ -1,0 +1,57 @@
+-- What the changes of a step make of what was kept: the record that changed last stands in the place of that of its key.
+use Rattle.std.proofs.Common.{◌≡◌, refl, sym, ◌∙◌, ap, Bool, true, false, ℕ, List, [], ◌∷◌, Some, if◌then◌else◌, arith}
+use Rattle.std.proofs.lemmas.Bool.Decides.{nat_tests}
+use Rattle.std.proofs.lemmas.Slice.Eq.{bytes_eq-Decides}
+use Rattle.amf_core.specs.Keyed.{all_current, current, newest, or_kept, put_in}
+use Rattle.amf_core.specs.State.{is_same_link, is_same_subscriber}
+use Rattle.amf_core.specs.declared.link.Link.{Link}
+use Rattle.amf_core.specs.declared.subscriber.Subscriber.{Subscriber}
+
+pub unchanged_stay : {A : Type 0} (same : A → A → Bool) (records : List A) → all_current same [] records ≡ records
+unchanged_stay same [] = refl
+unchanged_stay same (x ∷ records) = ap (λ (rest : List _). x ∷ rest) (unchanged_stay same records)
+
+-- a record of the same key is the same to every other
+abbrev KeepsKeys : {A : Type 0} → (A → A → Bool) → Type 0
+KeepsKeys same = (s x y : _) → same y x ≡ true → same s y ≡ same s x
+
+key_of_one : {A : Type 0} (same : A → A → Bool) → KeepsKeys same → (s x y : A) (ys : List A) (is : Bool) → same y x ≡ is
+    → same s (current same ys x) ≡ same s x → same s (or_kept (if is then Some y else newest same ys x) x) ≡ same s x
+key_of_one same keeps s x y ys true e rest = keeps s x y e
+key_of_one same keeps s x y ys false e rest = rest
+
+key_stays : {A : Type 0} (same : A → A → Bool) → KeepsKeys same → (s x : A) (ys : List A) → same s (current same ys x) ≡ same s x
+key_stays same keeps s x [] = refl
+key_stays same keeps s x (y ∷ ys) = key_of_one same keeps s x y ys (same y x) refl (key_stays same keeps s x ys)
+
+one_put : {A : Type 0} (same : A → A → Bool) (s x : A) (ys : List A) (is now : Bool) → now ≡ is
+    → or_kept (if is then Some s else newest same ys x) x ≡ (if now then s else current same ys x)
+one_put same s x ys true true e = refl
+one_put same s x ys false false e = refl
+one_put same s x ys true false e = cc
+one_put same s x ys false true e = cc
+
+pub all_put : {A : Type 0} (same : A → A → Bool) → KeepsKeys same → (s : A) (ys xs : List A)
+    → all_current same (s ∷ ys) xs ≡ put_in same s (all_current same ys xs)
+all_put {A} same keeps s ys [] = refl
+all_put {A} same keeps s ys (x ∷ xs) =
+    let now : A = current same ys x in
+    let one : current same (s ∷ ys) x ≡ (if same s now then s else now) =
+    one_put same s x ys (same s x) (same s now) (key_stays same keeps s x ys) in
+    ap (λ (head : A). head ∷ all_current same (s ∷ ys) xs) one
+    ∙ ap (λ (rest : List A). (if same s now then s else now) ∷ rest) (all_put {A} same keeps s ys xs)
+
+-- a SUPI, and the number of a link
+subscribers_keep : KeepsKeys is_same_subscriber
+subscribers_keep s x y e = grind (arith, bytes_eq-Decides x.supi y.supi, e)
+
+links_keep : KeepsKeys is_same_link
+links_keep s x y e = grind (arith, nat_tests, e)
+
+pub subscriber_put : (s : Subscriber) (ys xs : List Subscriber)
+    → all_current is_same_subscriber (s ∷ ys) xs ≡ put_in is_same_subscriber s (all_current is_same_subscriber ys xs)
+subscriber_put s ys xs = all_put is_same_subscriber subscribers_keep s ys xs
+
+pub link_put : (l : Link) (ys xs : List Link)
+    → all_current is_same_link (l ∷ ys) xs ≡ put_in is_same_link l (all_current is_same_link ys xs)
+link_put l ys xs = all_put is_same_link links_keep l ys xs
