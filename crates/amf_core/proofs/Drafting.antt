@@ -33,13 +33,11 @@ one_put same s x ys false true e = cc
 
 pub all_put : {A : Type 0} (same : A → A → Bool) → KeepsKeys same → (s : A) (ys xs : List A)
     → all_current same (s ∷ ys) xs ≡ put_in same s (all_current same ys xs)
-all_put {A} same keeps s ys [] = refl
-all_put {A} same keeps s ys (x ∷ xs) =
-    let now : A = current same ys x in
-    let one : current same (s ∷ ys) x ≡ (if same s now then s else now) =
-    one_put same s x ys (same s x) (same s now) (key_stays same keeps s x ys) in
-    ap (λ (head : A). head ∷ all_current same (s ∷ ys) xs) one
-    ∙ ap (λ (rest : List A). (if same s now then s else now) ∷ rest) (all_put {A} same keeps s ys xs)
+all_put same keeps s ys [] = refl
+all_put same keeps s ys (x ∷ xs) =
+    ap (λ (head : _). head ∷ all_current same (s ∷ ys) xs)
+    (one_put same s x ys (same s x) (same s (current same ys x)) (key_stays same keeps s x ys))
+    ∙ ap (λ (rest : List _). (if same s (current same ys x) then s else current same ys x) ∷ rest) (all_put same keeps s ys xs)
 
 -- a SUPI, and the number of a link
 subscribers_keep : KeepsKeys is_same_subscriber

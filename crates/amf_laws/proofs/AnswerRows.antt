@@ -15,7 +15,7 @@ use Rattle.amf_core.specs.SecurityMode.{commanding_of, commanding_on, goes_on, i
 use Rattle.amf_core.specs.Service.{service_requested}
 use Rattle.amf_core.specs.Transport.{brought_down, session_of, transported}
 use Rattle.amf_core.specs.Registration.{is_on}
-use Rattle.amf_core.specs.Work.{home_of, link_of}
+use Rattle.amf_core.specs.Work.{Work, link_of}
 use Rattle.amf_core.specs.declared.acts.Protection.TheVariants.{Ciphered}
 use Rattle.amf_core.specs.declared.link.Link.{Link}
 use Rattle.amf_core.specs.declared.procedures.Challenging.{Challenging}
@@ -29,7 +29,6 @@ use Rattle.amf_core.specs.declared.procedures.Purpose.{Purpose}
 use Rattle.amf_core.specs.declared.procedures.Purpose.TheVariants.{Registration, Command}
 use Rattle.amf_core.specs.declared.security_mode.Commanding.{Commanding}
 use Rattle.amf_core.specs.declared.subscriber.Subscriber.{Subscriber}
-use Rattle.amf_core.specs.declared.work.Work.{Work}
 use Rattle.nas_base.proofs.Branching.{per_holds, when_holds}
 use Rattle.amf_laws.proofs.ChallengeRows.{MayRefuse, challenge_put_moves, challenge_runs, challenge_settles, ended_moves, say_on_moves, stopped_moves}
 use Rattle.amf_laws.proofs.LinkRecords.{same_number}
@@ -102,7 +101,7 @@ again_may May number records Command c s same link = tt
 resynchronised_settles : {May : List ℕ → Type 0} {b : Beginning} {w : Work} (auts : List ℕ) (o : Asking) (s : Subscriber) → Own May b s
     → MayRefuse May o.challenging.purpose (next_link o.challenging.purpose o.challenging s) (links_now w) → Moves May b (running_in s.procedure) (running_in s.procedure) w → Settled May b (resynchronised auts o s w)
 resynchronised_settles {May} {b} {w} auts o s e may h =
-    when_holds (λ (x : Work). Settled May b x) (is_right (resync_of s.supi o.auth.challenge.rand auts (home_of w))) _ w
+    when_holds (λ (x : Work). Settled May b x) (is_right (resync_of s.supi o.auth.challenge.rand auts w.home)) _ w
     (λ _. challenge_settles _ _ None s e may (homes _ h)) (λ _. settled h)
 
 failed_by_settles : {May : List ℕ → Type 0} {b : Beginning} {w : Work} (m : AuthenticationFailure) (number : ℕ) (o : Asking) (s : Subscriber) → Own May b s

@@ -3,28 +3,26 @@ use Rattle.std.proofs.Common.{◌≡◌, sym, subst, ◌⊎◌, ℕ, List, Optio
 use Rattle.nas_elements.specs.declared.guti.Guti.{Guti}
 use Rattle.mm_messages.specs.declared.message.Mm.{Mm}
 use Rattle.amf_core.specs.Checks.{Passage, checked_in_use, checked_pending, noted}
-use Rattle.amf_core.specs.Drafts.{by_now}
 use Rattle.amf_core.specs.Naming.{keeper, keeps_guti, keeps_stmsi, short_keeper}
 use Rattle.nas_elements.specs.declared.guti.Stmsi.{Stmsi}
 use Rattle.amf_core.specs.State.{has_supi, subscriber_in}
-use Rattle.amf_core.specs.Work.{link_of, put_link, say, subscriber, subscriber_of_link}
+use Rattle.amf_core.specs.Work.{Work, link_of, put_link, say, subscriber, subscriber_of_link}
 use Rattle.amf_core.specs.declared.acts.Protection.{Protection}
 use Rattle.amf_core.specs.declared.requests.Request.{Request}
 use Rattle.amf_core.specs.declared.subscriber.Subscriber.{Subscriber}
-use Rattle.amf_core.specs.declared.work.Work.{Work}
 use Rattle.nas_base.proofs.Branching.{per_holds}
 use Rattle.amf_laws.proofs.Moves.{MayProtect, Settled, begins}
-use Rattle.amf_laws.proofs.Records.{found_among, found_by_supi, found_has, stay_distinct}
+use Rattle.amf_laws.proofs.Records.{found_among, found_by_supi, found_has}
 use Rattle.amf_laws.specs.Passing.{IsAmong}
 use Rattle.amf_laws.specs.Timers.{AreDistinct}
 
 -- the records as they are by now
 abbrev pub kept_now : Work → List Subscriber
-kept_now w = (by_now w.amf).subscribers
+kept_now w = w.amf.subscribers
 
 -- a record is kept, and where no SUPI is kept twice it is that of its SUPI
 pub record IsCurrent (s : Subscriber) (w : Work) : Type 0 where
-  pub is : AreDistinct w.amf.before.amf.subscribers → subscriber_in s.supi (kept_now w) ≡ Some s
+  pub is : AreDistinct (kept_now w) → subscriber_in s.supi (kept_now w) ≡ Some s
   pub among : IsAmong s (kept_now w)
 
 -- octets passed a check of a subscriber
@@ -48,10 +46,6 @@ pub data Chain (May : List ℕ → Type 0) (u : Received) : Work → Type 0 wher
       → Chain May u (noted u.number p.check u.first)
   does : {w new : Work} (s : Subscriber) → IsCurrent s w → May s.supi → Settled May (begins s w) new → Chain May u w → Chain May u new
 
--- still no SUPI twice
-pub distinct_now : (w : Work) → AreDistinct w.amf.before.amf.subscribers → AreDistinct (kept_now w)
-distinct_now w h = stay_distinct w.amf.changes.subscribers w.amf.before.amf.subscribers h
-
 -- what is found is current
 pub found_before : (supi : List ℕ) (w : Work) (s : Subscriber) → subscriber supi w ≡ Some s → subscriber_in s.supi (kept_now w) ≡ Some s
 found_before supi w s e = subst (λ (x : List ℕ). subscriber_in x (kept_now w) ≡ Some s) (sym (found_has supi (kept_now w) s e)) e
@@ -66,12 +60,12 @@ link_is_current number w =
 
 pub keeper_is_current : (g : Guti) (w : Work) (s : Subscriber) → keeper g w ≡ Some s → IsCurrent s w
 keeper_is_current g w s e = record {
-  is = λ distinct. found_by_supi (keeps_guti g) (kept_now w) s (distinct_now w distinct) e;
+  is = λ distinct. found_by_supi (keeps_guti g) (kept_now w) s distinct e;
   among = found_among (keeps_guti g) (kept_now w) s e;
 }
 
 pub short_keeper_is_current : (t : Stmsi) (w : Work) (s : Subscriber) → short_keeper t w ≡ Some s → IsCurrent s w
 short_keeper_is_current t w s e = record {
-  is = λ distinct. found_by_supi (keeps_stmsi t) (kept_now w) s (distinct_now w distinct) e;
+  is = λ distinct. found_by_supi (keeps_stmsi t) (kept_now w) s distinct e;
   among = found_among (keeps_stmsi t) (kept_now w) s e;
 }

@@ -7,8 +7,7 @@ use Rattle.milenage.specs.declared.vector.Vector.{Vector}
 use Rattle.mm_messages.specs.declared.message.Mm.{Mm}
 use Rattle.amf_core.specs.Answers.{AuthenticationValues}
 use Rattle.amf_core.specs.Challenges.{authentication, by_vector, challenge, challenge_begun, challenge_next, challenge_open, challenge_put, challenge_refused, challenge_sent, claimed, ended, idle, phase_sent, stopped, stopped_of, told}
-use Rattle.amf_core.specs.Drafts.{by_now}
-use Rattle.amf_core.specs.Work.{config_of, home_of, link_of, put, say_on}
+use Rattle.amf_core.specs.Work.{Work, config_of, link_of, put, say_on}
 use Rattle.amf_core.specs.declared.acts.Protection.{Protection}
 use Rattle.amf_core.specs.declared.acts.Protection.TheVariants.{IntegrityProtectedWithNewContext}
 use Rattle.amf_core.specs.declared.draft.Draft.{Draft}
@@ -21,7 +20,6 @@ use Rattle.amf_core.specs.declared.procedures.Procedure.TheVariants as procedure
 use Rattle.amf_core.specs.declared.procedures.Purpose.{Purpose}
 use Rattle.amf_core.specs.declared.procedures.Purpose.TheVariants.{Registration, Command}
 use Rattle.amf_core.specs.declared.subscriber.Subscriber.{Subscriber}
-use Rattle.amf_core.specs.declared.work.Work.{Work}
 use Rattle.nas_base.proofs.Branching.{per_holds}
 use Rattle.amf_laws.proofs.Moves.{Beginning, MayLink, MayProtect, Own, by_link_may, links_now, own_protection_may, Moves, Settled, settled}
 use Rattle.amf_laws.proofs.Moves.Moves.{said, starts, stops, puts, links, homes}
@@ -114,7 +112,7 @@ pub challenge_next_settles : {May : List ℕ → Type 0} {b : Beginning} {q : Ru
     (capability : Option (List ℕ)) (s : Subscriber) → Own May b s → MayRefuse May purpose link (links_now w)
     → Moves May b none_runs q w → Settled May b (challenge_next purpose link capability s w)
 challenge_next_settles {May} {b} {q} {w} purpose link capability s e may h =
-    by_vector_settles (challenge_of s.supi w.rand (home_of w)) purpose link capability s e may (homes (challenged s.supi w.rand (home_of w)) h)
+    by_vector_settles (challenge_of s.supi w.rand w.home) purpose link capability s e may (homes (challenged s.supi w.rand w.home) h)
 
 stopped_of_stays : (procedure : Procedure) (s : Subscriber) (w : Work) → (stopped_of procedure s w).amf ≡ w.amf
 stopped_of_stays procedures.Idle s w = refl

@@ -25,11 +25,10 @@ use Rattle.amf_core.specs.Naming.{keeper, kept_for, named_by_suci, suci_digits}
 use Rattle.amf_core.specs.Registration.{is_emergency, registration_requested, request_by_guti, request_by_identity, request_by_suci}
 use Rattle.amf_core.specs.SecurityMode.{mode_rejected}
 use Rattle.amf_core.specs.Service.{service_refused}
-use Rattle.amf_core.specs.Work.{answer, link_of, put, put_link, subscriber_of_link}
+use Rattle.amf_core.specs.Work.{Work, answer, link_of, put, put_link, subscriber_of_link}
 use Rattle.amf_core.specs.declared.checks.Check.{Check}
 use Rattle.amf_core.specs.declared.requests.Request.{Request}
 use Rattle.amf_core.specs.declared.subscriber.Subscriber.{Subscriber}
-use Rattle.amf_core.specs.declared.work.Work.{Work}
 use Rattle.amf_laws.proofs.AnswerRows.{failed_settles, mode_completed_settles, mode_rejected_settles, responded_settles, service_settles, transported_settles}
 use Rattle.nas_base.proofs.Branching.{per_holds, when_holds}
 use Rattle.amf_laws.proofs.Chains.{Chain, IsChecked, IsCurrent, Received, found_is_current, keeper_is_current, link_is_current, short_keeper_is_current}

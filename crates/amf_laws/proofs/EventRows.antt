@@ -12,7 +12,7 @@ use Rattle.amf_core.specs.Commands.{authenticated, by_sqn, is_idle, is_registere
 use Rattle.amf_core.specs.Deregistration.{unregistered}
 use Rattle.amf_core.specs.Events.{accepting_expired, acceptance_again, challenge_again, challenging_expired, deregistering_expired, expired_of, fenced_of, is_challenged_on, is_left, link_lost_of, of_acceptance, of_challenge, of_deregistration, sessions_told_of, unlinked}
 use Rattle.amf_core.specs.State.{word_of}
-use Rattle.amf_core.specs.Work.{home_of}
+use Rattle.amf_core.specs.Work.{Work}
 use Rattle.amf_core.specs.declared.acts.Protection.TheVariants.{Ciphered}
 use Rattle.amf_core.specs.declared.inputs.AmfRefusal.{AmfRefusal}
 use Rattle.amf_core.specs.declared.procedures.Accepting.{Accepting}
@@ -22,7 +22,6 @@ use Rattle.amf_core.specs.declared.procedures.Procedure.{Procedure}
 use Rattle.amf_core.specs.declared.procedures.Procedure.TheVariants as procedures
 use Rattle.amf_core.specs.declared.procedures.Purpose.TheVariants.{Command}
 use Rattle.amf_core.specs.declared.subscriber.Subscriber.{Subscriber}
-use Rattle.amf_core.specs.declared.work.Work.{Work}
 use Rattle.nas_base.proofs.Branching.{when_holds}
 use Rattle.amf_laws.proofs.ChallengeRows.{challenge_next_settles, challenge_put_moves, challenge_settles, ended_moves, say_on_moves}
 use Rattle.amf_laws.proofs.Moves.{Beginning, Own, Moves, Settled, settled, told_as}
@@ -129,7 +128,7 @@ pub authenticated_settles : {May : List ℕ → Type 0} {b : Beginning} {q : Run
     → Moves May b (running_in s.procedure) q w → SettledBy May b (authenticated s w)
 authenticated_settles {May} {b} {q} {w} s e h =
     when_holds (λ (x : Result Work AmfRefusal). SettledBy May b x) (may_begin s) _ _
-    (λ may. by_sqn_settles (challenge_of s.supi w.rand (home_of w)) s e (told_as _ none_runs (may_begin_runs s may) h)) (λ _. tt)
+    (λ may. by_sqn_settles (challenge_of s.supi w.rand w.home) s e (told_as _ none_runs (may_begin_runs s may) h)) (λ _. tt)
 
 pub left_settles : {May : List ℕ → Type 0} {b : Beginning} {q : Running} {w : Work} (s : Subscriber) → Own May b s
     → Moves May b (running_in s.procedure) q w → SettledBy May b (left s w)

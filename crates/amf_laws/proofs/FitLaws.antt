@@ -2,38 +2,50 @@
 use Rattle.std.proofs.Common.{◌≡◌, refl, sym, ap, subst, ◌∙◌, inl, inr, ℕ, Bool, true, false, List, Option, Some, None}
 use Rattle.std.specs.Prelude.{is_some}
 use Rattle.std.specs.Str.{bytes_eq}
-use Rattle.amf_core.specs.Changes.{BeforeState}
 use Rattle.amf_core.specs.Checks.{Passage, checked_in_use, checked_pending, noted, opened, passed_in_use, passed_pending}
 use Rattle.amf_core.specs.SecurityMode.{commanding_of, commanding_on}
 use Rattle.amf_core.specs.State.{subscriber_in}
-use Rattle.amf_core.specs.Work.{put, put_link}
+use Rattle.amf_core.specs.Work.{Work, put, put_link}
 use Rattle.amf_core.specs.declared.procedures.Procedure.{Procedure}
 use Rattle.amf_core.specs.declared.security_mode.Commanding.{Commanding}
 use Rattle.amf_core.specs.declared.subscriber.Subscriber.{Subscriber}
-use Rattle.amf_core.specs.declared.work.Work.{Work}
 use Rattle.nas_base.proofs.Branching.{per_holds}
 use Rattle.amf_laws.proofs.ChallengeRows.{challenge_runs}
 use Rattle.amf_laws.proofs.Chains.{Chain, IsChecked, IsCurrent, Received, kept_now}
 use Rattle.amf_laws.proofs.Chains.Chain.{nothing, speaks, waits, passes, does}
 use Rattle.amf_laws.proofs.Moves.{Beginning, Moves, Settled, begins}
 use Rattle.amf_laws.proofs.Moves.Moves.{here, said, asked, starts, stops, puts, links, homes, numbers}
-use Rattle.amf_laws.proofs.Records.{are_equal, changed_among, equals_itself, kept_by_now, other_is_found, own_is_found}
+use Rattle.amf_laws.proofs.Records.{are_equal, equals_itself, is_kept, other_is_found, own_is_found, put_among, some_stays, stay_distinct, were_distinct}
 use Rattle.amf_laws.proofs.FramedFit.{commanded_runs}
 use Rattle.amf_laws.proofs.Told.{acts_onto, all_acted}
 use Rattle.amf_laws.specs.Timers.{AreDistinct, Running, running_for, running_in, with_timer}
 
--- what was kept before the step stays
-pub before_stays : {May : List ℕ → Type 0} {b : Beginning} {p q : Running} {w : Work} → Moves May b p q w → w.amf.before ≡ b.first.amf.before
+-- the same SUPIs are kept, and none twice where none was
+pub moves_some : (x : List ℕ) {May : List ℕ → Type 0} {b : Beginning} {p q : Running} {w : Work} → Moves May b p q w
+    → is_some (subscriber_in x (kept_now w)) ≡ is_some (subscriber_in x (kept_now b.first))
 unfolding put put_link
-before_stays here = refl
-before_stays (said number protection message may h) = before_stays h
-before_stays (asked call s h) = before_stays h
-before_stays (starts id s e h) = before_stays h
-before_stays (stops id s e h) = before_stays h
-before_stays (puts s e h) = before_stays h
-before_stays (links number supi waiting h) = before_stays h
-before_stays (homes home h) = before_stays h
-before_stays (numbers h) = before_stays h
+moves_some x here = refl
+moves_some x (said number protection message may h) = moves_some x h
+moves_some x (asked call s h) = moves_some x h
+moves_some x (starts id s e h) = moves_some x h
+moves_some x (stops id s e h) = moves_some x h
+moves_some x (puts s e h) = some_stays s x _ ∙ moves_some x h
+moves_some x (links number supi waiting h) = moves_some x h
+moves_some x (homes home h) = moves_some x h
+moves_some x (numbers h) = moves_some x h
+
+pub moves_distinct : {May : List ℕ → Type 0} {b : Beginning} {p q : Running} {w : Work} → AreDistinct (kept_now b.first) → Moves May b p q w
+    → AreDistinct (kept_now w)
+unfolding put put_link
+moves_distinct begin here = begin
+moves_distinct begin (said number protection message may h) = moves_distinct begin h
+moves_distinct begin (asked call s h) = moves_distinct begin h
+moves_distinct begin (starts id s e h) = moves_distinct begin h
+moves_distinct begin (stops id s e h) = moves_distinct begin h
+moves_distinct begin (puts s e h) = stay_distinct s _ (moves_distinct begin h)
+moves_distinct begin (links number supi waiting h) = moves_distinct begin h
+moves_distinct begin (homes home h) = moves_distinct begin h
+moves_distinct begin (numbers h) = moves_distinct begin h
 
 -- the record of any other SUPI stays
 pub other_stays : (x : List ℕ) {May : List ℕ → Type 0} {b : Beginning} {p q : Running} {w : Work} → bytes_eq b.supi x ≡ false → Moves May b p q w
@@ -45,7 +57,7 @@ other_stays x other (asked call s h) = other_stays x other h
 other_stays x other (starts id s e h) = other_stays x other h
 other_stays x other (stops id s e h) = other_stays x other h
 other_stays x other (puts s e h) =
-    other_is_found _ _ s x (ap (λ (y : List ℕ). bytes_eq y x) e.0 ∙ other) ∙ other_stays x other h
+    other_is_found s x _ (ap (λ (y : List ℕ). bytes_eq y x) e.0 ∙ other) ∙ other_stays x other h
 other_stays x other (links number supi waiting h) = other_stays x other h
 other_stays x other (homes home h) = other_stays x other h
 other_stays x other (numbers h) = other_stays x other h
@@ -86,7 +98,7 @@ own_told x r own begin (numbers h) = own_told x r own begin h
 
 -- and by its procedure
 pub own_opened : (x : List ℕ) {May : List ℕ → Type 0} {b : Beginning} {p q : Running} {w : Work} → bytes_eq b.supi x ≡ true
-    → is_some (subscriber_in x b.first.amf.before.amf.subscribers) ≡ true
+    → is_some (subscriber_in x (kept_now b.first)) ≡ true
     → running_for (subscriber_in x (kept_now b.first)) ≡ b.opened → Moves May b p q w → running_for (subscriber_in x (kept_now w)) ≡ q
 unfolding put put_link
 own_opened x own kept begin here = begin
@@ -96,8 +108,7 @@ own_opened x own kept begin (starts id s e h) = own_opened x own kept begin h
 own_opened x own kept begin (stops id s e h) = own_opened x own kept begin h
 own_opened x own kept begin (puts s e h) =
     ap running_for
-    (own_is_found _ _ s x (ap (λ (y : List ℕ). bytes_eq y x) e.0 ∙ own)
-    (ap (λ (y : BeforeState). is_some (subscriber_in x y.amf.subscribers)) (before_stays h) ∙ kept))
+    (own_is_found s x _ (ap (λ (y : List ℕ). bytes_eq y x) e.0 ∙ own) (moves_some x h ∙ kept))
 own_opened x own kept begin (links number supi waiting h) = own_opened x own kept begin h
 own_opened x own kept begin (homes home h) = own_opened x own kept begin h
 own_opened x own kept begin (numbers h) = own_opened x own kept begin h
@@ -110,7 +121,7 @@ pub record Fits (x : List ℕ) (r : Running) (w : Work) : Type 0 where
 pub record IsBegun (x : List ℕ) (r : Running) (b : Beginning) : Type 0 where
   pub own_told : bytes_eq b.supi x ≡ true → all_acted x b.first.acts r ≡ b.told
   pub own_opened : bytes_eq b.supi x ≡ true → running_for (subscriber_in x (kept_now b.first)) ≡ b.opened
-  pub kept : bytes_eq b.supi x ≡ true → is_some (subscriber_in x b.first.amf.before.amf.subscribers) ≡ true
+  pub kept : bytes_eq b.supi x ≡ true → is_some (subscriber_in x (kept_now b.first)) ≡ true
   pub other : bytes_eq b.supi x ≡ false → all_acted x b.first.acts r ≡ running_for (subscriber_in x (kept_now b.first))
 
 own_or_other : (x : List ℕ) (r : Running) {May : List ℕ → Type 0} {b : Beginning} {w : Work} (own : Bool) → bytes_eq b.supi x ≡ own → IsBegun x r b → Settled May b w
@@ -164,19 +175,15 @@ pub checked_is_of : (number : ℕ) (octets : List ℕ) (s : Subscriber) (p : Pas
 checked_is_of number octets s p (inl e) = in_use_is_of number octets s p e
 checked_is_of number octets s p (inr e) = pending_is_of number octets s p e
 
--- the SUPI of a current record was kept before
-pub current_was_kept : (s : Subscriber) (w : Work) → subscriber_in s.supi (kept_now w) ≡ Some s
-    → is_some (subscriber_in s.supi w.amf.before.amf.subscribers) ≡ true
-current_was_kept s w h = kept_by_now s.supi w.amf.changes.subscribers w.amf.before.amf.subscribers s h
-
 -- what passed is current once it is noted
 pub noted_is_current : {s : Subscriber} {w : Work} (number : ℕ) (p : Passage) → IsOf s p → IsCurrent s w
     → IsCurrent p.check.subscriber (noted number p.check w)
 unfolding put put_link
 noted_is_current {s} {w} number p of h = record {
-  is = λ distinct. own_is_found _ _ p.check.subscriber p.check.subscriber.supi (equals_itself p.check.subscriber.supi)
-      (ap (λ (y : List ℕ). is_some (subscriber_in y w.amf.before.amf.subscribers)) of.supi ∙ current_was_kept s w (h.is distinct));
-  among = changed_among w.amf.changes.subscribers w.amf.before.amf.subscribers s p.check.subscriber of.supi h.among;
+  is = λ distinct. own_is_found p.check.subscriber p.check.subscriber.supi (kept_now w) (equals_itself p.check.subscriber.supi)
+      (ap (λ (y : List ℕ). is_some (subscriber_in y (kept_now w))) of.supi
+      ∙ is_kept (subscriber_in s.supi (kept_now w)) s (h.is (were_distinct p.check.subscriber (kept_now w) distinct)));
+  among = put_among s p.check.subscriber (kept_now w) of.supi h.among;
 }
 
 -- a record that is put with the same timer
@@ -187,8 +194,8 @@ unfolding put
 same_timer x w old new true own e runs h =
     let is_x : old.supi ≡ x = sym e ∙ are_equal new.supi x own in
     let at_x : subscriber_in x (kept_now w) ≡ Some old = subst (λ (y : List ℕ). subscriber_in y (kept_now w) ≡ Some old) is_x h in
-    ap running_for (own_is_found _ _ new x own (kept_by_now x _ _ old at_x)) ∙ runs ∙ sym (ap running_for at_x)
-same_timer x w old new false own e runs h = ap running_for (other_is_found _ _ new x own)
+    ap running_for (own_is_found new x (kept_now w) own (is_kept _ old at_x)) ∙ runs ∙ sym (ap running_for at_x)
+same_timer x w old new false own e runs h = ap running_for (other_is_found new x (kept_now w) own)
 
 noted_fits : (x : List ℕ) (r : Running) {s : Subscriber} {w : Work} (number : ℕ) (p : Passage) → IsOf s p
     → subscriber_in s.supi (kept_now w) ≡ Some s → Fits x r w
@@ -208,20 +215,20 @@ pub fit_begins : (x : List ℕ) (r : Running) (s : Subscriber) (w : Work) → su
 fit_begins x r s w is h = record {
   own_told = λ own. h.fit ∙ ap running_for (current_at x s w own is);
   own_opened = λ own. ap running_for (current_at x s w own is);
-  kept = λ own. kept_by_now x w.amf.changes.subscribers w.amf.before.amf.subscribers s (current_at x s w own is);
+  kept = λ own. is_kept _ s (current_at x s w own is);
   other = λ _. h.fit;
 }
 
 -- a chain of rows
-pub chain_before : {May : List ℕ → Type 0} {u : Received} {w : Work} → Chain May u w → w.amf.before ≡ u.first.amf.before
+pub chain_distinct : {May : List ℕ → Type 0} {u : Received} {w : Work} → AreDistinct (kept_now u.first) → Chain May u w → AreDistinct (kept_now w)
 unfolding put put_link
-chain_before nothing = refl
-chain_before (speaks number protection message may h) = chain_before h
-chain_before (waits number supi waiting h) = chain_before h
-chain_before (passes s p is may checked) = refl
-chain_before (does s is may done h) = before_stays done.moves ∙ chain_before h
+chain_distinct begin nothing = begin
+chain_distinct begin (speaks number protection message may h) = chain_distinct begin h
+chain_distinct begin (waits number supi waiting h) = chain_distinct begin h
+chain_distinct begin (passes s p is may checked) = stay_distinct p.check.subscriber _ begin
+chain_distinct begin (does s is may done h) = moves_distinct (chain_distinct begin h) done.moves
 
-pub chain_fits : (x : List ℕ) (r : Running) {May : List ℕ → Type 0} {u : Received} {w : Work} → AreDistinct u.first.amf.before.amf.subscribers
+pub chain_fits : (x : List ℕ) (r : Running) {May : List ℕ → Type 0} {u : Received} {w : Work} → AreDistinct (kept_now u.first)
     → Fits x r u.first → Chain May u w → Fits x r w
 unfolding put_link
 chain_fits x r distinct begin nothing = begin
@@ -232,5 +239,4 @@ chain_fits x r {May} {u} distinct begin (passes s p is may checked) =
     noted_fits x r u.number p (checked_is_of u.number u.octets s p checked) (is.is distinct) begin
 chain_fits x r distinct begin (does s is may done h) =
     settled_fits x r
-    (fit_begins x r s _ (is.is (subst (λ (y : BeforeState). AreDistinct y.amf.subscribers) (sym (chain_before h)) distinct))
-    (chain_fits x r distinct begin h)) done
+    (fit_begins x r s _ (is.is (chain_distinct distinct h)) (chain_fits x r distinct begin h)) done

@@ -4,28 +4,25 @@ use Rattle.std.specs.Str.{bytes_eq}
 use Rattle.mm_messages.specs.Messages.{spelling}
 use Rattle.mm_messages.specs.declared.message.Mm.{Mm}
 use Rattle.nas_security.specs.declared.sends.Pass.{Pass}
-use Rattle.amf_core.specs.Changes.{BeforeState}
-use Rattle.amf_core.specs.Drafts.{by_now}
-use Rattle.amf_core.specs.Framing.{ciphered_for, commanded_for, counted, counted_command, counted_down, framed, framed_all, framed_ciphered, framed_plain, framed_with_new_context, is_too_long, is_unsent, sent}
+use Rattle.amf_core.specs.Framing.{Framed, ciphered_for, commanded_for, counted, counted_command, counted_down, framed, framed_all, framed_ciphered, framed_plain, framed_with_new_context, is_too_long, is_unsent, sent}
 use Rattle.amf_core.specs.SecurityMode.{commanding_of}
 use Rattle.amf_core.specs.State.{subscriber_in}
 use Rattle.amf_core.specs.declared.acts.Act.{Act}
 use Rattle.amf_core.specs.declared.acts.Act.TheVariants.{Say, Tell}
 use Rattle.amf_core.specs.declared.acts.Protection.{Protection}
 use Rattle.amf_core.specs.declared.acts.Protection.TheVariants.{Plain, Ciphered, IntegrityProtectedWithNewContext}
-use Rattle.amf_core.specs.declared.framing.Framed.{Framed}
 use Rattle.amf_core.specs.declared.procedures.Procedure.{Procedure}
 use Rattle.amf_core.specs.declared.procedures.Procedure.TheVariants as procedures
 use Rattle.amf_core.specs.declared.security_mode.Commanding.{Commanding}
 use Rattle.amf_core.specs.declared.subscriber.Subscriber.{Subscriber}
 use Rattle.nas_base.proofs.Branching.{per_holds, when_holds}
 use Rattle.amf_laws.proofs.ChallengeRows.{challenge_runs}
-use Rattle.amf_laws.proofs.Records.{are_equal, found_has, kept_by_now, other_is_found, own_is_found}
+use Rattle.amf_laws.proofs.Records.{are_equal, found_has, is_kept, other_is_found, own_is_found, stay_distinct}
 use Rattle.amf_laws.proofs.Told.{acted_of, all_acted, outs_onto}
-use Rattle.amf_laws.specs.Timers.{Running, all_taken, running_for, running_in, taken_of}
+use Rattle.amf_laws.specs.Timers.{AreDistinct, Running, all_taken, running_for, running_in, taken_of}
 
 abbrev pub framed_now : Framed → List Subscriber
-framed_now f = (by_now f.amf).subscribers
+framed_now f = f.amf.subscribers
 
 -- a count that is taken leaves the rest of a record
 pub record IsCounted (old new : Subscriber) : Type 0 where
@@ -92,11 +89,10 @@ says_send {f} number (IntegrityProtectedWithNewContext supi) message =
     per_holds (λ (g : Framed). Sends (IntegrityProtectedWithNewContext supi) f g) (subscriber_in supi (framed_now f)) f _ (λ _. unsent)
     (λ s is. commanded_sends supi number (spelling message) s (found_has supi (framed_now f) s is) (current_found supi (framed_now f) s is))
 
--- so far these timers run by what went out, these by the procedure, and this was kept before
-pub record Leaves (x : List ℕ) (r p q : Running) (kept : BeforeState) (f : Framed) : Type 0 where
+-- so far these timers run by what went out, and these by the procedure
+pub record Leaves (x : List ℕ) (r p q : Running) (f : Framed) : Type 0 where
   pub told : all_taken x f.outs r ≡ p
   pub opened : running_for (subscriber_in x (framed_now f)) ≡ q
-  pub before : f.amf.before ≡ kept
 
 count_runs : (x : List ℕ) (f : Framed) (old new : Subscriber) (own : Bool) → bytes_eq new.supi x ≡ own → new.supi ≡ old.supi
     → running_in new.procedure ≡ running_in old.procedure → subscriber_in old.supi (framed_now f) ≡ Some old
@@ -105,27 +101,42 @@ count_runs x f old new true own e runs found =
     let is_x : old.supi ≡ x = sym e ∙ are_equal new.supi x own in
     let at_x : subscriber_in x (framed_now f) ≡ Some old =
     subst (λ (y : List ℕ). subscriber_in y (framed_now f) ≡ Some old) is_x found in
-    ap running_for (own_is_found _ _ new x own (kept_by_now x _ _ old at_x)) ∙ ap (λ (y : Running). y) runs ∙ sym (ap running_for at_x)
-count_runs x f old new false own e runs found = ap running_for (other_is_found _ _ new x own)
+    ap running_for (own_is_found new x (framed_now f) own (is_kept _ old at_x)) ∙ ap (λ (y : Running). y) runs ∙ sym (ap running_for at_x)
+count_runs x f old new false own e runs found = ap running_for (other_is_found new x (framed_now f) own)
 
-sends_leave : {x : List ℕ} {r p q : Running} {kept : BeforeState} {protection : Protection} {f g : Framed} → Sends protection f g
-    → Leaves x r p q kept f → Leaves x r p q kept g
+sends_leave : {x : List ℕ} {r p q : Running} {protection : Protection} {f g : Framed} → Sends protection f g
+    → Leaves x r p q f → Leaves x r p q g
 sends_leave unsent h = h
 sends_leave (goes number octets pass s) h =
-    let done = sends_leave s h in record { told = rw outs_onto done.told; opened = done.opened; before = done.before }
+    let done = sends_leave s h in record { told = rw outs_onto done.told; opened = done.opened }
 sends_leave {x} (counts {g} old new of is found s) h =
     let done = sends_leave s h in
-    record { told = done.told; opened = count_runs x g old new (bytes_eq new.supi x) refl of.supi of.runs found ∙ done.opened; before = done.before }
+    record { told = done.told; opened = count_runs x g old new (bytes_eq new.supi x) refl of.supi of.runs found ∙ done.opened }
 
 -- what is said goes out, one after the other
-act_leaves : {x : List ℕ} {r p q : Running} {kept : BeforeState} {f : Framed} (act : Act)
-    → Leaves x r p q kept f → Leaves x r (acted_of x act p) q kept (framed act f)
+act_leaves : {x : List ℕ} {r p q : Running} {f : Framed} (act : Act)
+    → Leaves x r p q f → Leaves x r (acted_of x act p) q (framed act f)
 unfolding framed
 act_leaves {x} (Tell out) h =
-    record { told = rw outs_onto (ap (λ (y : Running). taken_of x out y) h.told); opened = h.opened; before = h.before }
+    record { told = rw outs_onto (ap (λ (y : Running). taken_of x out y) h.told); opened = h.opened }
 act_leaves (Say number protection message) h = sends_leave (says_send number protection message) h
 
-pub acts_leave : {x : List ℕ} {r q : Running} {kept : BeforeState} (acts : List Act) (p : Running) (f : Framed)
-    → Leaves x r p q kept f → Leaves x r (all_acted x acts p) q kept (framed_all acts f)
+pub acts_leave : {x : List ℕ} {r q : Running} (acts : List Act) (p : Running) (f : Framed)
+    → Leaves x r p q f → Leaves x r (all_acted x acts p) q (framed_all acts f)
 acts_leave [] p f h = h
 acts_leave {x} (act ∷ acts) p f h = acts_leave acts (acted_of x act p) (framed act f) (act_leaves act h)
+
+-- and no SUPI is kept twice where none was
+sends_distinct : {protection : Protection} {f g : Framed} → AreDistinct (framed_now f) → Sends protection f g → AreDistinct (framed_now g)
+sends_distinct begin unsent = begin
+sends_distinct begin (goes number octets pass s) = sends_distinct begin s
+sends_distinct begin (counts old new of is found s) = stay_distinct new _ (sends_distinct begin s)
+
+act_distinct : (act : Act) (f : Framed) → AreDistinct (framed_now f) → AreDistinct (framed_now (framed act f))
+unfolding framed
+act_distinct (Tell out) f begin = begin
+act_distinct (Say number protection message) f begin = sends_distinct begin (says_send number protection message)
+
+pub acts_distinct : (acts : List Act) (f : Framed) → AreDistinct (framed_now f) → AreDistinct (framed_now (framed_all acts f))
+acts_distinct [] f begin = begin
+acts_distinct (act ∷ acts) f begin = acts_distinct acts (framed act f) (act_distinct act f begin)

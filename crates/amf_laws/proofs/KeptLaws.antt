@@ -3,21 +3,18 @@ use Rattle.std.proofs.Common.{◌≡◌, refl, sym, ap, subst, ◌∙◌, inl, i
 use Rattle.std.specs.Str.{bytes_eq}
 use Rattle.nas_elements.specs.declared.guti.Guti.{Guti}
 use Rattle.milenage.specs.Home.{HomeRecord}
-use Rattle.amf_core.specs.Changes.{BeforeState}
-use Rattle.amf_core.specs.Framing.{framed, framed_all}
+use Rattle.amf_core.specs.Framing.{Framed, framed, framed_all}
 use Rattle.amf_core.specs.Keyed.{all_current, current}
 use Rattle.amf_core.specs.State.{AmfState, has_supi, is_same_subscriber}
 use Rattle.amf_core.specs.Step.{ended, finished, framed_of, started, step_of, worked}
-use Rattle.amf_core.specs.Work.{put, put_link, subscriber}
+use Rattle.amf_core.specs.Work.{Work, put, put_link, subscriber}
 use Rattle.amf_core.specs.declared.acts.Act.{Act}
 use Rattle.amf_core.specs.declared.acts.Act.TheVariants.{Say, Tell}
 use Rattle.amf_core.specs.declared.acts.Protection.{Protection}
-use Rattle.amf_core.specs.declared.framing.Framed.{Framed}
 use Rattle.amf_core.specs.declared.inputs.AmfInput.{AmfInput}
 use Rattle.amf_core.specs.declared.inputs.AmfInput.TheVariants.{Uplink, Expired, Authenticate, Deregister, Fence, Sessions, Down, Dropped}
 use Rattle.amf_core.specs.declared.inputs.AmfRefusal.{AmfRefusal}
 use Rattle.amf_core.specs.declared.subscriber.Subscriber.{Subscriber}
-use Rattle.amf_core.specs.declared.work.Work.{Work}
 use Rattle.amf_laws.proofs.Chains.{Chain, Received, kept_now}
 use Rattle.amf_laws.proofs.Chains.Chain.{nothing, speaks, waits, passes, does}
 use Rattle.amf_laws.proofs.FitLaws.{before_stays, chain_before, checked_is_of}
@@ -109,7 +106,7 @@ comes_few a w few (settles b s one done) = (
 comes_few a w few (stays at_start) = (start_few a w at_start few, at_start.before)
 
 few_at_end : (a : AmfState) (home : List HomeRecord) (done : Result Work AmfRefusal) → ComesBy (λ (y : List ℕ). Unit {0}) a done
-    → StayFew a (finished a home done)
+    → StayFew a (finished done)
 unfolding ended
 few_at_end a home (Ok w) h = λ few.
     let are = comes_few a w few h in

@@ -2,23 +2,20 @@
 use Rattle.std.proofs.Common.{◌≡◌, refl, sym, ap, ◌∙◌, ◌⊎◌, inl, inr, ◌==◌, ◌||◌, ℕ, Bool, true, false, List, [], ◌∷◌, ◌++◌, Option, arith}
 use Rattle.std.proofs.lemmas.Bool.Decides.{nat_tests}
 use Rattle.milenage.specs.Home.{HomeRecord}
-use Rattle.amf_core.specs.Changes.{BeforeState}
 use Rattle.amf_core.specs.Delivery.{freshened, received}
-use Rattle.amf_core.specs.Framing.{framed, framed_all}
+use Rattle.amf_core.specs.Framing.{Framed, framed, framed_all}
 use Rattle.amf_core.specs.Keyed.{all_current}
 use Rattle.amf_core.specs.State.{AmfState, is_same_link, link_in}
 use Rattle.amf_core.specs.Step.{ended, started, worked}
 use Rattle.nas_timers.specs.Durations.{deadline_after, duration_of}
-use Rattle.amf_core.specs.Work.{config_of, link_of, put, put_link}
+use Rattle.amf_core.specs.Work.{Work, config_of, link_of, put, put_link}
 use Rattle.amf_core.specs.declared.acts.Act.{Act}
 use Rattle.amf_core.specs.declared.acts.Act.TheVariants.{Say, Tell}
 use Rattle.amf_core.specs.declared.acts.Protection.{Protection}
-use Rattle.amf_core.specs.declared.framing.Framed.{Framed}
 use Rattle.amf_core.specs.declared.link.Link.{Link}
 use Rattle.amf_core.specs.declared.outs.AmfOut.{AmfOut}
 use Rattle.amf_core.specs.declared.outs.AmfOut.TheVariants.{Send, Passed, Smf, Start, Stop}
 use Rattle.amf_core.specs.declared.requests.Request.{Request}
-use Rattle.amf_core.specs.declared.work.Work.{Work}
 use Rattle.nas_security.specs.declared.sends.Pass.{Pass}
 use Rattle.nas_base.proofs.Branching.{when_true}
 use Rattle.amf_laws.proofs.Chains.{Chain, Received}
@@ -212,11 +209,11 @@ fresh_unset n w =
     (same_is n (link_of n w).number (link_number n (all_current is_same_link w.amf.changes.links w.amf.before.amf.links))) refl
 
 marked_end : (a : AmfState) (home : List HomeRecord) (n : ℕ) (w : Work) → w.amf.before.amf ≡ a → Marked n w
-    → (link_in n (ended a home w).amf.links).secure ≡ true → has_passed (ended a home w).outs ≡ true
+    → (link_in n (ended w).amf.links).secure ≡ true → has_passed (ended w).outs ≡ true
 unfolding ended
 marked_end a home n w before (is_told e) = λ _. all_tell w.acts (record { amf = w.amf; outs = [] }) e
 marked_end a home n w before (is_unset e) = λ secure.
-    let same : (link_in n (ended a home w).amf.links).secure ≡ (link_of n w).secure =
+    let same : (link_in n (ended w).amf.links).secure ≡ (link_of n w).secure =
     ap (λ (x : List Link). (link_in n (all_current is_same_link x a.links)).secure) (all_links w.acts (record { amf = w.amf; outs = [] }))
     ∙ sym (ap (λ (x : AmfState). (link_in n (all_current is_same_link w.amf.changes.links x.links)).secure) before) in
     let not_secure : true ≡ false = sym secure ∙ same ∙ e in
@@ -224,8 +221,8 @@ marked_end a home n w before (is_unset e) = λ secure.
 
 marks : (a : AmfState) (home : List HomeRecord) (number : ℕ) (octets : List ℕ) (w : Work) → w.amf.before.amf ≡ a
     → (link_of number w).secure ≡ false
-    → (link_in number (ended a home (received number octets w)).amf.links).secure ≡ true
-    → has_passed (ended a home (received number octets w)).outs ≡ true
+    → (link_in number (ended (received number octets w)).amf.links).secure ≡ true
+    → has_passed (ended (received number octets w)).outs ≡ true
 marks a home number octets w before unset =
     let u : Received = record { number = number; octets = octets; first = w } in
     let chain : Chain (λ (y : List ℕ). Unit {0}) u (received number octets w) = received_chain u (any_may u) in

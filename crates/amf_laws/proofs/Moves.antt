@@ -5,16 +5,14 @@ use Rattle.nas_timers.specs.declared.timer_id.TimerId.{TimerId}
 use Rattle.milenage.specs.Home.{HomeRecord}
 use Rattle.mm_messages.specs.declared.message.Mm.{Mm}
 use Rattle.amf_core.specs.Acceptance.{tmsi_taken}
-use Rattle.amf_core.specs.Drafts.{by_now}
 use Rattle.amf_core.specs.State.{link_in}
-use Rattle.amf_core.specs.Work.{ask, by_link, link_of, own_protection, put, put_home, put_link, say, start, stop}
+use Rattle.amf_core.specs.Work.{Work, ask, by_link, link_of, own_protection, put, put_home, put_link, say, start, stop}
 use Rattle.amf_core.specs.declared.acts.Protection.{Protection}
 use Rattle.amf_core.specs.declared.acts.Protection.TheVariants.{Plain, Ciphered, IntegrityProtectedWithNewContext}
 use Rattle.amf_core.specs.declared.link.Link.{Link}
 use Rattle.amf_core.specs.declared.outs.SmfAsk.{SmfAsk}
 use Rattle.amf_core.specs.declared.requests.Request.{Request}
 use Rattle.amf_core.specs.declared.subscriber.Subscriber.{Subscriber}
-use Rattle.amf_core.specs.declared.work.Work.{Work}
 use Rattle.nas_base.proofs.Branching.{per_holds, when_holds}
 use Rattle.amf_laws.specs.Kept.{AreFew}
 use Rattle.amf_laws.specs.Timers.{Running, running_in, with_timer}
@@ -63,7 +61,7 @@ settled {May} {b} {r} {w} h = record { runs = r; moves = h }
 
 -- the links as they are by now
 abbrev pub links_now : Work → List Link
-links_now w = (by_now w.amf).links
+links_now w = w.amf.links
 
 -- whom a link last passed or challenged may change
 abbrev pub MayLink : (List ℕ → Type 0) → ℕ → List Link → Type 0

@@ -10,28 +10,25 @@ use Rattle.mm_messages.specs.Messages.{mm_in}
 use Rattle.mm_messages.specs.declared.message.Mm.{Mm}
 use Rattle.mm_messages.specs.declared.message.Mm.TheVariants as mm
 use Rattle.mm_messages.specs.declared.message.MmRefusal.{MmRefusal}
-use Rattle.amf_core.specs.Changes.{BeforeState}
 use Rattle.amf_core.specs.Checks.{Passage, checked_in_use, checked_pending, noted, opened, passed_in_use, passed_pending}
 use Rattle.amf_core.specs.Delivery.{freshened, message_of, named_inside, sender}
-use Rattle.amf_core.specs.Framing.{framed, framed_all}
+use Rattle.amf_core.specs.Framing.{Framed, framed, framed_all}
 use Rattle.amf_core.specs.Keyed.{all_current, current, found}
 use Rattle.amf_core.specs.Naming.{is_any, is_guti, keeps_guti, keeps_stmsi, kept_for, suci_digits}
 use Rattle.amf_core.specs.SecurityMode.{commanding_on}
 use Rattle.amf_core.specs.State.{AmfState, is_same_link, is_same_subscriber, link_in, subscriber_in}
 use Rattle.amf_core.specs.Step.{ended, finished, framed_of, started, step_of, worked}
-use Rattle.amf_core.specs.Work.{config_of, link_of, put, put_link, subscriber, subscriber_of_link}
+use Rattle.amf_core.specs.Work.{Work, config_of, link_of, put, put_link, subscriber, subscriber_of_link}
 use Rattle.amf_core.specs.declared.acts.Act.{Act}
 use Rattle.amf_core.specs.declared.acts.Act.TheVariants.{Say, Tell}
 use Rattle.amf_core.specs.declared.acts.Protection.{Protection}
 use Rattle.amf_core.specs.declared.acts.Protection.TheVariants.{Plain, Ciphered, IntegrityProtectedWithNewContext}
-use Rattle.amf_core.specs.declared.framing.Framed.{Framed}
 use Rattle.amf_core.specs.declared.inputs.AmfInput.{AmfInput}
 use Rattle.amf_core.specs.declared.inputs.AmfInput.TheVariants.{Uplink, Expired, Authenticate, Deregister, Fence, Sessions, Down, Dropped}
 use Rattle.amf_core.specs.declared.inputs.AmfRefusal.{AmfRefusal}
 use Rattle.amf_core.specs.declared.link.Link.{Link}
 use Rattle.amf_core.specs.declared.outs.AmfOut.TheVariants.{Passed, Smf, Start, Stop}
 use Rattle.amf_core.specs.declared.subscriber.Subscriber.{Subscriber}
-use Rattle.amf_core.specs.declared.work.Work.{Work}
 use Rattle.nas_base.proofs.Branching.{per_holds, when_holds}
 use Rattle.amf_laws.proofs.Chains.{Chain, IsChecked, Received, kept_now, link_is_current}
 use Rattle.amf_laws.proofs.Chains.Chain.{nothing, speaks, waits, passes, does}
@@ -163,7 +160,7 @@ comes_stays May x a w not_x (stays at_start) =
     record { found = start_stays x a w at_start; acts = start_for May a w at_start; before = at_start.before }
 
 others_at_end : (a : AmfState) (home : List HomeRecord) (input : AmfInput) (done : Result Work AmfRefusal) → ComesBy (Concerns a input) a done
-    → OthersStay a input (finished a home done)
+    → OthersStay a input (finished done)
 unfolding ended
 others_at_end a home input (Ok w) h = λ x not_x.
     let are : Stays (Concerns a input) x a w = comes_stays (Concerns a input) x a w not_x h in

@@ -10,20 +10,18 @@ use Rattle.nas_security.specs.declared.verdicts.Verdict.{Verdict}
 use Rattle.nas_security.specs.declared.verdicts.Verdict.TheVariants as verdicts
 use Rattle.amf_core.specs.Checks.{Opened, Passage, checked_in_use, checked_pending, opened, opened_by, passed_in_use, passed_pending}
 use Rattle.amf_core.specs.Delivery.{freshened, received}
-use Rattle.amf_core.specs.Framing.{framed, framed_all}
+use Rattle.amf_core.specs.Framing.{Framed, framed, framed_all}
 use Rattle.amf_core.specs.SecurityMode.{commanding_on}
 use Rattle.amf_core.specs.State.{AmfState, is_same_subscriber}
 use Rattle.amf_core.specs.Step.{ended, started, worked}
 use Rattle.nas_timers.specs.Durations.{deadline_after, duration_of}
-use Rattle.amf_core.specs.Work.{config_of, put, put_link}
+use Rattle.amf_core.specs.Work.{Work, config_of, put, put_link}
 use Rattle.amf_core.specs.declared.acts.Act.{Act}
 use Rattle.amf_core.specs.declared.acts.Act.TheVariants.{Say, Tell}
 use Rattle.amf_core.specs.declared.acts.Protection.{Protection}
-use Rattle.amf_core.specs.declared.framing.Framed.{Framed}
 use Rattle.amf_core.specs.declared.outs.AmfOut.{AmfOut}
 use Rattle.amf_core.specs.declared.outs.AmfOut.TheVariants.{Send, Passed, Smf, Start, Stop}
 use Rattle.amf_core.specs.declared.subscriber.Subscriber.{Subscriber}
-use Rattle.amf_core.specs.declared.work.Work.{Work}
 use Rattle.nas_base.proofs.Branching.{per_holds, when_holds}
 use Rattle.amf_laws.proofs.Chains.{Chain, IsChecked, Received, kept_now}
 use Rattle.amf_laws.proofs.Chains.Chain.{nothing, speaks, waits, passes, does}
@@ -208,7 +206,7 @@ pub kept_at_start : (a : AmfState) (w : Work) → IsAtStart a w → kept_now w �
 kept_at_start a w h = rw (h.changes, h.before) (unchanged_stay is_same_subscriber a.subscribers)
 
 opened_at_end : (a : AmfState) (home : List HomeRecord) (number : ℕ) (octets : List ℕ) (w : Work) → get_or octets 6 0 < 256
-    → IsAtStart a w → AllPassed (WasChecked a number octets) (ended a home (received number octets w)).outs
+    → IsAtStart a w → AllPassed (WasChecked a number octets) (ended (received number octets w)).outs
 unfolding ended
 opened_at_end a home number octets w small h =
     let u : Received = record { number = number; octets = octets; first = w } in

@@ -1,9 +1,9 @@
--- Records by their keys, as changes leave them.
+-- Records of subscribers by their SUPIs, and one that is put in the place of another.
 use Rattle.std.proofs.Common.{◌≡◌, refl, sym, ap, ◌∙◌, subst, inl, inr, ℕ, Bool, true, false, List, [], ◌∷◌, Option, Some, None, if◌then◌else◌, arith}
 use Rattle.std.specs.Prelude.{is_some, option_map}
 use Rattle.std.specs.Str.{bytes_eq}
 use Rattle.std.proofs.lemmas.Slice.Eq.{bytes_eq-Decides}
-use Rattle.amf_core.specs.Keyed.{all_current, current, found, newest, or_kept}
+use Rattle.amf_core.specs.Keyed.{found, put_in}
 use Rattle.amf_core.specs.State.{is_same_subscriber, subscriber_in}
 use Rattle.amf_core.specs.declared.subscriber.Subscriber.{Subscriber}
 use Rattle.amf_laws.specs.Timers.{AreDistinct}
@@ -20,42 +20,45 @@ pub other_way : (x y : List ℕ) (is : Bool) → bytes_eq x y ≡ is → bytes_e
 other_way x y true h = grind (arith, bytes_eq-Decides x y, bytes_eq-Decides y x)
 other_way x y false h = grind (arith, bytes_eq-Decides x y, bytes_eq-Decides y x)
 
--- what didn't change is as it was
-pub unchanged_stay : {A : Type 0} (same : A → A → Bool) (records : List A) → all_current same [] records ≡ records
-unchanged_stay same [] = refl
-unchanged_stay same (x ∷ records) = ap (λ (rest : List _). x ∷ rest) (unchanged_stay same records)
+-- a record in the place of that of its subscriber
+abbrev pub put_one : Subscriber → Subscriber → Subscriber
+put_one s x = if is_same_subscriber s x then s else x
 
--- a record that changes keeps its SUPI
-newest_stays : (changes : List Subscriber) (s y : Subscriber) (same : Bool) → bytes_eq s.supi y.supi ≡ same
-    → (current is_same_subscriber changes s).supi ≡ s.supi
-    → (or_kept (if same then Some y else newest is_same_subscriber changes s) s).supi ≡ s.supi
-newest_stays changes s y true e h = sym (are_equal s.supi y.supi e)
-newest_stays changes s y false e h = h
+one_is : (s x : Subscriber) (is : Bool) → bytes_eq x.supi s.supi ≡ is → put_one s x ≡ (if is then s else x)
+one_is s x true e = rw e refl
+one_is s x false e = rw e refl
 
-pub supi_stays : (changes : List Subscriber) (s : Subscriber) → (current is_same_subscriber changes s).supi ≡ s.supi
-supi_stays [] s = refl
-supi_stays (y ∷ changes) s = newest_stays changes s y (bytes_eq s.supi y.supi) refl (supi_stays changes s)
+put_own : (s x : Subscriber) → bytes_eq x.supi s.supi ≡ true → put_one s x ≡ s
+put_own s x e = one_is s x true e
+
+pub put_other : (s x : Subscriber) → bytes_eq x.supi s.supi ≡ false → put_one s x ≡ x
+put_other s x e = one_is s x false e
+
+-- a record that is put keeps its SUPI
+keeps_supi : (s x : Subscriber) (is : Bool) → bytes_eq x.supi s.supi ≡ is → (if is then s else x).supi ≡ x.supi
+keeps_supi s x true e = sym (are_equal x.supi s.supi e)
+keeps_supi s x false e = refl
+
+pub supi_stays : (s x : Subscriber) → (put_one s x).supi ≡ x.supi
+supi_stays s x = keeps_supi s x (bytes_eq x.supi s.supi) refl
 
 -- what is found of a SUPI is what was found of it before, as it is by now
-first_by_now : (supi : List ℕ) (changes subscribers : List Subscriber) (s : Subscriber) (is : Bool)
-    → subscriber_in supi (all_current is_same_subscriber changes subscribers)
-    ≡ option_map (current is_same_subscriber changes) (subscriber_in supi subscribers)
-    → (if is then Some (current is_same_subscriber changes s) else subscriber_in supi (all_current is_same_subscriber changes subscribers))
-    ≡ option_map (current is_same_subscriber changes) (if is then Some s else subscriber_in supi subscribers)
-first_by_now supi changes subscribers s true h = refl
-first_by_now supi changes subscribers s false h = h
+first_put : (supi : List ℕ) (s x : Subscriber) (subscribers : List Subscriber) (is : Bool)
+    → subscriber_in supi (put_in is_same_subscriber s subscribers) ≡ option_map (put_one s) (subscriber_in supi subscribers)
+    → (if is then Some (put_one s x) else subscriber_in supi (put_in is_same_subscriber s subscribers))
+    ≡ option_map (put_one s) (if is then Some x else subscriber_in supi subscribers)
+first_put supi s x subscribers true h = refl
+first_put supi s x subscribers false h = h
 
-pub found_by_now : (supi : List ℕ) (changes subscribers : List Subscriber)
-    → subscriber_in supi (all_current is_same_subscriber changes subscribers)
-    ≡ option_map (current is_same_subscriber changes) (subscriber_in supi subscribers)
-found_by_now supi changes [] = refl
-found_by_now supi changes (s ∷ subscribers) =
+found_put : (supi : List ℕ) (s : Subscriber) (subscribers : List Subscriber)
+    → subscriber_in supi (put_in is_same_subscriber s subscribers) ≡ option_map (put_one s) (subscriber_in supi subscribers)
+found_put supi s [] = refl
+found_put supi s (x ∷ subscribers) =
     subst
-    (λ (x : List ℕ). (if bytes_eq x supi then Some (current is_same_subscriber changes s)
-    else subscriber_in supi (all_current is_same_subscriber changes subscribers))
-    ≡ option_map (current is_same_subscriber changes) (if bytes_eq s.supi supi then Some s else subscriber_in supi subscribers))
-    (sym (supi_stays changes s))
-    (first_by_now supi changes subscribers s (bytes_eq s.supi supi) (found_by_now supi changes subscribers))
+    (λ (y : List ℕ). (if bytes_eq y supi then Some (put_one s x) else subscriber_in supi (put_in is_same_subscriber s subscribers))
+    ≡ option_map (put_one s) (if bytes_eq x.supi supi then Some x else subscriber_in supi subscribers))
+    (sym (supi_stays s x))
+    (first_put supi s x subscribers (bytes_eq x.supi supi) (found_put supi s subscribers))
 
 -- what is found of a SUPI has it
 first_has : (supi : List ℕ) (subscribers : List Subscriber) (x s : Subscriber) (is : Bool) → bytes_eq x.supi supi ≡ is
@@ -70,62 +73,67 @@ found_has supi [] s e = absurd (cc)
 found_has supi (x ∷ subscribers) s e =
     first_has supi subscribers x s (bytes_eq x.supi supi) refl (found_has supi subscribers s) e
 
--- one more record changes
-pub changed_first : (changes : List Subscriber) (s x : Subscriber) (is : Bool) → bytes_eq x.supi s.supi ≡ is
-    → current is_same_subscriber (s ∷ changes) x ≡ (if is then s else current is_same_subscriber changes x)
-changed_first changes s x true e = rw e refl
-changed_first changes s x false e = rw e refl
-
-mapped_other : (changes : List Subscriber) (s : Subscriber) (supi : List ℕ) (x : Option Subscriber) → bytes_eq s.supi supi ≡ false
-    → ((y : Subscriber) → x ≡ Some y → y.supi ≡ supi)
-    → option_map (current is_same_subscriber (s ∷ changes)) x ≡ option_map (current is_same_subscriber changes) x
-mapped_other changes s supi None e has = refl
-mapped_other changes s supi (Some y) e has =
+-- another record that is put leaves it
+mapped_other : (s : Subscriber) (supi : List ℕ) (x : Option Subscriber) → bytes_eq s.supi supi ≡ false
+    → ((y : Subscriber) → x ≡ Some y → y.supi ≡ supi) → option_map (put_one s) x ≡ x
+mapped_other s supi None e has = refl
+mapped_other s supi (Some y) e has =
     ap (λ (z : Subscriber). Some z)
-    (changed_first changes s y false (ap (λ (z : List ℕ). bytes_eq z s.supi) (has y refl) ∙ other_way s.supi supi false e))
+    (put_other s y (ap (λ (z : List ℕ). bytes_eq z s.supi) (has y refl) ∙ other_way s.supi supi false e))
 
-pub other_is_found : (changes subscribers : List Subscriber) (s : Subscriber) (supi : List ℕ) → bytes_eq s.supi supi ≡ false
-    → subscriber_in supi (all_current is_same_subscriber (s ∷ changes) subscribers)
-    ≡ subscriber_in supi (all_current is_same_subscriber changes subscribers)
-other_is_found changes subscribers s supi e =
-    found_by_now supi (s ∷ changes) subscribers
-    ∙ mapped_other changes s supi (subscriber_in supi subscribers) e (found_has supi subscribers)
-    ∙ sym (found_by_now supi changes subscribers)
+pub other_is_found : (s : Subscriber) (supi : List ℕ) (subscribers : List Subscriber) → bytes_eq s.supi supi ≡ false
+    → subscriber_in supi (put_in is_same_subscriber s subscribers) ≡ subscriber_in supi subscribers
+other_is_found s supi subscribers e =
+    found_put supi s subscribers ∙ mapped_other s supi (subscriber_in supi subscribers) e (found_has supi subscribers)
 
-mapped_own : (changes : List Subscriber) (s : Subscriber) (supi : List ℕ) (x : Option Subscriber) → bytes_eq s.supi supi ≡ true
-    → ((y : Subscriber) → x ≡ Some y → y.supi ≡ supi) → is_some x ≡ true
-    → option_map (current is_same_subscriber (s ∷ changes)) x ≡ Some s
-mapped_own changes s supi None e has some = absurd (cc)
-mapped_own changes s supi (Some y) e has some =
+-- its own is found in its place
+mapped_own : (s : Subscriber) (supi : List ℕ) (x : Option Subscriber) → bytes_eq s.supi supi ≡ true
+    → ((y : Subscriber) → x ≡ Some y → y.supi ≡ supi) → is_some x ≡ true → option_map (put_one s) x ≡ Some s
+mapped_own s supi None e has some = absurd (cc)
+mapped_own s supi (Some y) e has some =
     ap (λ (z : Subscriber). Some z)
-    (changed_first changes s y true (ap (λ (z : List ℕ). bytes_eq z s.supi) (has y refl) ∙ other_way s.supi supi true e))
+    (put_own s y (ap (λ (z : List ℕ). bytes_eq z s.supi) (has y refl) ∙ other_way s.supi supi true e))
 
-pub own_is_found : (changes subscribers : List Subscriber) (s : Subscriber) (supi : List ℕ) → bytes_eq s.supi supi ≡ true
-    → is_some (subscriber_in supi subscribers) ≡ true
-    → subscriber_in supi (all_current is_same_subscriber (s ∷ changes) subscribers) ≡ Some s
-own_is_found changes subscribers s supi e some =
-    found_by_now supi (s ∷ changes) subscribers
-    ∙ mapped_own changes s supi (subscriber_in supi subscribers) e (found_has supi subscribers) some
+pub own_is_found : (s : Subscriber) (supi : List ℕ) (subscribers : List Subscriber) → bytes_eq s.supi supi ≡ true
+    → is_some (subscriber_in supi subscribers) ≡ true → subscriber_in supi (put_in is_same_subscriber s subscribers) ≡ Some s
+own_is_found s supi subscribers e some =
+    found_put supi s subscribers ∙ mapped_own s supi (subscriber_in supi subscribers) e (found_has supi subscribers) some
 
--- what is kept is kept by now
-pub some_before : {A B : Type 0} (f : A → B) (x : Option A) (y : B) → option_map f x ≡ Some y → is_some x ≡ true
-some_before f None y e = absurd (cc)
-some_before f (Some x) y e = refl
+-- whatever is put, the same SUPIs are kept
+mapped_some : (s : Subscriber) (x : Option Subscriber) → is_some (option_map (put_one s) x) ≡ is_some x
+mapped_some s None = refl
+mapped_some s (Some y) = refl
 
-pub kept_by_now : (supi : List ℕ) (changes subscribers : List Subscriber) (s : Subscriber)
-    → subscriber_in supi (all_current is_same_subscriber changes subscribers) ≡ Some s
-    → is_some (subscriber_in supi subscribers) ≡ true
-kept_by_now supi changes subscribers s e =
-    some_before (current is_same_subscriber changes) (subscriber_in supi subscribers) s (sym (found_by_now supi changes subscribers) ∙ e)
+pub some_stays : (s : Subscriber) (supi : List ℕ) (subscribers : List Subscriber)
+    → is_some (subscriber_in supi (put_in is_same_subscriber s subscribers)) ≡ is_some (subscriber_in supi subscribers)
+some_stays s supi subscribers =
+    ap (λ (x : Option Subscriber). is_some x) (found_put supi s subscribers) ∙ mapped_some s (subscriber_in supi subscribers)
 
--- no SUPI twice, still
-pub stay_distinct : (changes subscribers : List Subscriber) → AreDistinct subscribers
-    → AreDistinct (all_current is_same_subscriber changes subscribers)
-stay_distinct changes [] h = tt
-stay_distinct changes (s ∷ subscribers) h = (
-  ap (λ (x : List ℕ). subscriber_in x (all_current is_same_subscriber changes subscribers)) (supi_stays changes s)
-      ∙ found_by_now s.supi changes subscribers ∙ ap (λ (x : Option Subscriber). option_map (current is_same_subscriber changes) x) h.0,
-  stay_distinct changes subscribers h.1,
+pub is_kept : (x : Option Subscriber) (s : Subscriber) → x ≡ Some s → is_some x ≡ true
+is_kept x s e = ap (λ (y : Option Subscriber). is_some y) e
+
+-- no SUPI twice, still, and before
+pub stay_distinct : (s : Subscriber) (subscribers : List Subscriber) → AreDistinct subscribers
+    → AreDistinct (put_in is_same_subscriber s subscribers)
+stay_distinct s [] h = tt
+stay_distinct s (x ∷ subscribers) h = (
+  ap (λ (y : List ℕ). subscriber_in y (put_in is_same_subscriber s subscribers)) (supi_stays s x)
+      ∙ found_put x.supi s subscribers ∙ ap (λ (o : Option Subscriber). option_map (put_one s) o) h.0,
+  stay_distinct s subscribers h.1,
+)
+
+none_was : (s : Subscriber) (x : Option Subscriber) → option_map (put_one s) x ≡ None → x ≡ None
+none_was s None e = refl
+none_was s (Some y) e = absurd (cc)
+
+pub were_distinct : (s : Subscriber) (subscribers : List Subscriber) → AreDistinct (put_in is_same_subscriber s subscribers)
+    → AreDistinct subscribers
+were_distinct s [] h = tt
+were_distinct s (x ∷ subscribers) h = (
+  none_was s (subscriber_in x.supi subscribers)
+      (sym (ap (λ (y : List ℕ). subscriber_in y (put_in is_same_subscriber s subscribers)) (supi_stays s x)
+      ∙ found_put x.supi s subscribers) ∙ h.0),
+  were_distinct s subscribers h.1,
 )
 
 -- whatever a record is found by, it is the one of its SUPI
@@ -163,11 +171,26 @@ pub found_among : (is : Subscriber → Bool) (subscribers : List Subscriber) (s 
 found_among is [] s e = absurd (cc)
 found_among is (x ∷ subscribers) s e = among_first is x subscribers s (is x) (found_among is subscribers s) e
 
--- and what changes of one that is among them is among them by now
-pub changed_among : (changes subscribers : List Subscriber) (old new : Subscriber) → new.supi ≡ old.supi
-    → IsAmong old (all_current is_same_subscriber changes subscribers) → IsAmong new (all_current is_same_subscriber (new ∷ changes) subscribers)
-changed_among changes [] old new e h = absurd h
-changed_among changes (x ∷ subscribers) old new e (inl is) =
-    let same : x.supi ≡ new.supi = sym (supi_stays changes x) ∙ ap (λ (y : Subscriber). y.supi) is ∙ sym e in
-    inl (changed_first changes new x true (ap (λ (y : List ℕ). bytes_eq y new.supi) same ∙ equals_itself new.supi))
-changed_among changes (x ∷ subscribers) old new e (inr h) = inr (changed_among changes subscribers old new e h)
+-- and what is put in the place of one that is among them is among them
+pub put_among : (old new : Subscriber) (subscribers : List Subscriber) → new.supi ≡ old.supi
+    → IsAmong old subscribers → IsAmong new (put_in is_same_subscriber new subscribers)
+put_among old new [] e h = absurd h
+put_among old new (x ∷ subscribers) e (inl is) =
+    let same : x.supi ≡ new.supi = ap (λ (y : Subscriber). y.supi) is ∙ sym e in
+    inl (put_own new x (ap (λ (y : List ℕ). bytes_eq y new.supi) same ∙ equals_itself new.supi))
+put_among old new (x ∷ subscribers) e (inr h) = inr (put_among old new subscribers e h)
+
+-- one that is among them was put, or was among them
+put_or : (s x found : Subscriber) (same : Bool) → bytes_eq x.supi s.supi ≡ same → put_one s x ≡ found → (s ≡ found) ⊎ (x ≡ found)
+put_or s x found true e is = inl (sym (put_own s x e) ∙ is)
+put_or s x found false e is = inr (sym (put_other s x e) ∙ is)
+
+lifted_or : {A B C : Type 0} → A ⊎ B → (B → C) → A ⊎ C
+lifted_or (inl a) f = inl a
+lifted_or (inr b) f = inr (f b)
+
+pub among_or : (s found : Subscriber) (subscribers : List Subscriber) → IsAmong found (put_in is_same_subscriber s subscribers)
+    → (s ≡ found) ⊎ IsAmong found subscribers
+among_or s found [] h = absurd h
+among_or s found (x ∷ subscribers) (inl is) = lifted_or (put_or s x found (bytes_eq x.supi s.supi) refl is) (λ old. inl old)
+among_or s found (x ∷ subscribers) (inr h) = lifted_or (among_or s found subscribers h) (λ rest. inr rest)

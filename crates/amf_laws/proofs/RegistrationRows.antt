@@ -9,7 +9,7 @@ use Rattle.amf_core.specs.Acceptance.{acceptance_ended, confirmed, is_challenge,
 use Rattle.amf_core.specs.Deregistration.{deregistered, deregistration_accepted, deregistration_put, deregistration_requested, is_deregistering, unregistered}
 use Rattle.amf_core.specs.Registration.{counting_capability, equal_acceptance, is_capable, is_granted, is_on, is_running, request_weighed, requested}
 use Rattle.amf_core.specs.Naming.{is_any, is_guti}
-use Rattle.amf_core.specs.Work.{config_of, link_of}
+use Rattle.amf_core.specs.Work.{Work, config_of, link_of}
 use Rattle.amf_core.specs.declared.acts.Protection.TheVariants.{Ciphered}
 use Rattle.amf_core.specs.declared.link.Link.{Link}
 use Rattle.amf_core.specs.declared.acceptance.Whole.{Whole}
@@ -20,7 +20,6 @@ use Rattle.amf_core.specs.declared.procedures.Procedure.TheVariants as procedure
 use Rattle.amf_core.specs.declared.procedures.Purpose.TheVariants.{Registration}
 use Rattle.amf_core.specs.declared.requests.Request.{Request}
 use Rattle.amf_core.specs.declared.subscriber.Subscriber.{Subscriber}
-use Rattle.amf_core.specs.declared.work.Work.{Work}
 use Rattle.nas_base.proofs.Branching.{per_holds, when_holds}
 use Rattle.amf_laws.proofs.ChallengeRows.{challenge_settles, ended_moves, say_on_moves, stopped_moves}
 use Rattle.amf_laws.proofs.Moves.{Beginning, MayLink, Own, by_link_may, links_now, own_protection_may, Moves, Settled, settled}

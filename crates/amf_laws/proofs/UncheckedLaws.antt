@@ -11,23 +11,21 @@ use Rattle.mm_messages.specs.declared.message.Mm.TheVariants as mm
 use Rattle.mm_messages.specs.declared.service.ServiceRequest.{ServiceRequest}
 use Rattle.amf_core.specs.Checks.{Opened, Passage, checked_in_use, checked_pending, opened}
 use Rattle.amf_core.specs.Delivery.{check_of, ciphered, failed, failed_request, freshened, header_of, integrity_protected, is_mm, message_of, plain, plain_read, received, sender, taken_plain, under_new_context}
-use Rattle.amf_core.specs.Framing.{framed, framed_all, is_too_long}
+use Rattle.amf_core.specs.Framing.{Framed, framed, framed_all, is_too_long}
 use Rattle.amf_core.specs.SecurityMode.{commanding_on}
 use Rattle.amf_core.specs.Service.{service_refused}
 use Rattle.amf_core.specs.State.{AmfState, is_same_link, is_same_subscriber, link_in}
 use Rattle.amf_core.specs.Step.{Stepped, ended, framed_of, started, worked}
-use Rattle.amf_core.specs.Work.{answer, link_of, own_protection, put_link, subscriber_of_link}
+use Rattle.amf_core.specs.Work.{Work, answer, link_of, own_protection, put_link, subscriber_of_link}
 use Rattle.amf_core.specs.Changes.{home_now}
 use Rattle.amf_core.specs.Keyed.{all_current}
 use Rattle.amf_core.specs.declared.acts.Act.{Act}
-use Rattle.amf_core.specs.declared.framing.Framed.{Framed}
 use Rattle.amf_core.specs.declared.acts.Act.TheVariants.{Say}
 use Rattle.amf_core.specs.declared.acts.Protection.{Protection}
 use Rattle.amf_core.specs.declared.acts.Protection.TheVariants.{Plain}
 use Rattle.amf_core.specs.declared.link.Link.{Link}
 use Rattle.amf_core.specs.declared.outs.AmfOut.TheVariants.{Send}
 use Rattle.amf_core.specs.declared.subscriber.Subscriber.{Subscriber}
-use Rattle.amf_core.specs.declared.work.Work.{Work}
 use Rattle.nas_base.proofs.Branching.{per_holds, when_false, when_holds, when_true}
 use Rattle.amf_laws.proofs.Chains.{link_is_current}
 use Rattle.amf_laws.proofs.DeliveryRows.{sender_is_current}
@@ -133,7 +131,7 @@ unchecked {a} {number} {octets} {w} h secure =
 
 -- a step that changes nothing
 nothing_ends : (a : AmfState) (home : List HomeRecord) (now : ℕ) (rand : List ℕ)
-    → ended a home (started a home now rand) ≡ record { amf = a; home = home; outs = [] }
+    → ended (started a home now rand) ≡ record { amf = a; home = home; outs = [] }
 unfolding ended
 nothing_ends a home now rand =
     rw (unchanged_stay is_same_subscriber a.subscribers, unchanged_stay is_same_link a.links) refl
@@ -150,8 +148,8 @@ unchecked_do_nothing a home now rand number octets small secure no_check =
     let still : freshened false number begin ≡ begin = when_false false _ begin refl in
     let h : IsUnchecked a number octets begin =
     record { small = small; no_check = no_check; at_start = record { acts = refl; changes = refl; before = refl } } in
-    ap (λ (w : Work). Ok (ended a home (received number octets w))) still
-    ∙ ap (λ (w : Work). Ok (ended a home w)) (unchecked h (ap (λ (l : Link). l.secure) (at_first a home now rand number) ∙ secure))
+    ap (λ (w : Work). Ok (ended (received number octets w))) still
+    ∙ ap (λ (w : Work). Ok (ended w)) (unchecked h (ap (λ (l : Link). l.secure) (at_first a home now rand number) ∙ secure))
     ∙ ap (λ (x : Stepped). Ok x) (nothing_ends a home now rand)
 
 -- a SERVICE REQUEST on a link that isn't secure
@@ -228,7 +226,7 @@ unfolding framed service_reject
 one_sent number f e = when_false (is_too_long (spelling service_rejected)) f _ refl ∙ rw e refl
 
 rejecting_ends : (a : AmfState) (home : List HomeRecord) (number : ℕ) (w : Work) → IsAtStartOf a home w → (link_of number w).secure ≡ false
-    → IsRejected a home number (ended a home (rejecting number w))
+    → IsRejected a home number (ended (rejecting number w))
 unfolding ended
 rejecting_ends a home number w h unsecured =
     let f : Framed = record { amf = w.amf; outs = [] } in
@@ -269,6 +267,6 @@ failed_requests_rejected a home now rand number fresh octets small h =
     let unsecured : (link_of number begin).secure ≡ false = unsecured_either a home now rand fresh number h.unsecured in
     let is : IsUnchecked a number octets begin =
     record { small = small; no_check = h.unchecked; at_start = freshened_at_start a home now rand fresh number } in
-    subst (λ (w : Work). IsRejected a home number (ended a home w))
+    subst (λ (w : Work). IsRejected a home number (ended w))
     (sym (refused h.read.0 is unsecured h.protocol h.size h.read.1))
     (rejecting_ends a home number begin (freshened_of a home now rand fresh number) unsecured)
