@@ -3,7 +3,7 @@ use Rattle.std.specs.Prelude.{◌≡◌, ℕ, List, [], Result, Ok, Err}
 use Rattle.milenage.specs.Home.{HomeRecord}
 use Rattle.amf_core.specs.Commands.{authenticate, deregister}
 use Rattle.amf_core.specs.Delivery.{brought_up}
-use Rattle.amf_core.specs.Changes.{changed, home_now}
+use Rattle.amf_core.specs.Drafts.{DraftState}
 use Rattle.amf_core.specs.Events.{carried_down, dropped, expired, fenced, sessions_told}
 use Rattle.amf_core.specs.Framing.{Framed, framed_all}
 use Rattle.amf_core.specs.State.{AmfState}
@@ -12,7 +12,6 @@ use Rattle.amf_core.specs.declared.inputs.AmfInput.TheVariants.{Uplink, Expired,
 use Rattle.amf_core.specs.declared.inputs.AmfRefusal.{AmfRefusal}
 use Rattle.amf_core.specs.declared.inputs.AmfRefusal.TheVariants as refusals
 use Rattle.amf_core.specs.declared.outs.AmfOut.{AmfOut}
-use Rattle.amf_core.specs.declared.stepping.Done.{Done}
 use Rattle.amf_core.specs.Work.{Work}
 
 -- a step at its start
@@ -60,13 +59,10 @@ Steps old new old_home new_home (Err refusals.UnknownSupi) step = Kept old new o
 Steps old new old_home new_home (Err (refusals.WrongState word)) step = Kept old new old_home new_home × (step ≡ Err (refusals.WrongState word))
 Steps old new old_home new_home (Err (refusals.SqnSpent n)) step = Kept old new old_home new_home × (step ≡ Err (refusals.SqnSpent n))
 
--- what the changes of a step make of an AMF and a home network that their owner keeps, and what goes out
-abbrev pub taken_over : Done → AmfState → List HomeRecord → Stepped
-taken_over done a home = record { amf = changed done.changes a; home = home_now done.changes.home home; outs = done.outs }
-
-abbrev pub Follows : AmfState → List HomeRecord → Result Done AmfRefusal → Result Stepped AmfRefusal → Type 0
-Follows a home (Ok done) step = step ≡ Ok (taken_over done a home)
-Follows a home (Err refusals.Memory) step = Unit {0}
-Follows a home (Err refusals.UnknownSupi) step = step ≡ Err refusals.UnknownSupi
-Follows a home (Err (refusals.WrongState word)) step = step ≡ Err (refusals.WrongState word)
-Follows a home (Err (refusals.SqnSpent n)) step = step ≡ Err (refusals.SqnSpent n)
+-- the same on what steps before it left, which its owner takes over later
+abbrev pub Follows : DraftState → Result (DraftState × List AmfOut) AmfRefusal → Result Stepped AmfRefusal → Type 0
+Follows old (Ok (new, outs)) step = (step ≡ Ok (record { amf = new.amf; home = new.home; outs = outs })) × (new.before ≡ old.before)
+Follows old (Err refusals.Memory) step = Unit {0}
+Follows old (Err refusals.UnknownSupi) step = step ≡ Err refusals.UnknownSupi
+Follows old (Err (refusals.WrongState word)) step = step ≡ Err (refusals.WrongState word)
+Follows old (Err (refusals.SqnSpent n)) step = step ≡ Err (refusals.SqnSpent n)

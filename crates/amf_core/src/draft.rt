@@ -1,4 +1,4 @@
-//! What a step leaves, while it goes on.
+//! What steps leave, while they go on.
 ghost use Rattle.std.specs.Prelude.{◌≡◌, ◌+◌, ◌<◌, ◌^◌, option_map, IfOk, OnOk, if◌then◌else◌};
 ghost use Rattle.amf_core.specs.Authentication.{is_right};
 ghost use Rattle.amf_core.specs.Challenges.{VectorFits};
@@ -17,9 +17,9 @@ use nas_elements::{Guti, Stmsi};
 use std::alloc::Global;
 use std::marker::Model;
 
-/// What a step leaves: what was kept before it, which stays as it is until the step is done, and what it changed. So want of memory leaves
-/// all as before, and a step copies the records alone that it changes. The home network is copied where a challenge starts or an
-/// AUTS comes, and in no other step.
+/// What steps leave: what was kept before them, which stays as it is until its owner takes the changes over, and what they changed. So
+/// want of memory leaves all as before, and a step copies the records alone that it changes. The home network is copied where a
+/// challenge starts or an AUTS comes, and in no other step.
 #[derive(Drop)]
 pub struct Draft<'a> {
     before: Before<'a>,
@@ -73,7 +73,7 @@ impl<'a> Draft<'a> {
         }
     }
 
-    /// What it changed.
+    /// What the steps changed.
     pub fn changes(self) -> Changes
         ensures { drafted result self.entry.before ≡ self.entry }
     {
@@ -81,7 +81,7 @@ impl<'a> Draft<'a> {
     }
 
     /// What was configured.
-    pub fn config(&self) -> &Configured
+    pub(crate) fn config(&self) -> &Configured
         ensures { result.now ≡ self.now.amf.config }
     {
         let amf = self.before.amf;
@@ -89,7 +89,7 @@ impl<'a> Draft<'a> {
     }
 
     /// The record of a subscriber, by the digits of its SUPI.
-    pub fn subscriber(&self, supi: &[u8]) -> Option<Subscriber>
+    pub(crate) fn subscriber(&self, supi: &[u8]) -> Option<Subscriber>
         ensures { result ≡ subscriber_in supi.now self.now.amf.subscribers }
     {
         let amf = self.before.amf;
@@ -104,7 +104,7 @@ impl<'a> Draft<'a> {
     }
 
     /// The record of the subscriber that a 5G-GUTI is kept for.
-    pub fn keeper(&self, guti: &Guti) -> Option<Subscriber>
+    pub(crate) fn keeper(&self, guti: &Guti) -> Option<Subscriber>
         ensures { result ≡ found (keeps_guti guti.now) self.now.amf.subscribers }
     {
         let amf = self.before.amf;
@@ -119,7 +119,7 @@ impl<'a> Draft<'a> {
     }
 
     /// The record of the subscriber that a 5G-GUTI with this 5G-S-TMSI is kept for.
-    pub fn short_keeper(&self, stmsi: &Stmsi) -> Option<Subscriber>
+    pub(crate) fn short_keeper(&self, stmsi: &Stmsi) -> Option<Subscriber>
         ensures { result ≡ found (keeps_stmsi stmsi.now) self.now.amf.subscribers }
     {
         let amf = self.before.amf;
@@ -135,7 +135,7 @@ impl<'a> Draft<'a> {
 
     /// A record takes the place of that of its subscriber.
     #[tactic(auto, using(crate::proofs::Drafting::subscriber_put))]
-    pub fn put(&mut self, subscriber: Subscriber) -> Result<(), Memory>
+    pub(crate) fn put(&mut self, subscriber: Subscriber) -> Result<(), Memory>
         ensures { OnOk result (self.new ≡ record self.old { amf = with_subscriber subscriber self.old.amf }) }
     {
         match self.changes.subscribers.insert(0, subscriber) {
@@ -146,7 +146,7 @@ impl<'a> Draft<'a> {
 
     /// The record of a link.
     #[tactic(auto, unfolding(nas_base::specs::Branches::per))]
-    pub fn link(&self, number: u16) -> Link
+    pub(crate) fn link(&self, number: u16) -> Link
         ensures { result ≡ link_in number self.now.amf.links }
     {
         match self.found_link(number) {
@@ -172,7 +172,7 @@ impl<'a> Draft<'a> {
 
     /// A record takes the place of that of its link.
     #[tactic(auto, using(crate::proofs::Drafting::link_put))]
-    pub fn put_link(&mut self, link: Link) -> Result<(), Memory>
+    pub(crate) fn put_link(&mut self, link: Link) -> Result<(), Memory>
         ensures { OnOk result (self.new ≡ record self.old { amf = with_link link self.old.amf }) }
     {
         match self.changes.links.insert(0, link) {
@@ -182,14 +182,14 @@ impl<'a> Draft<'a> {
     }
 
     /// The next 5G-TMSI, which is 2^32 where none is left.
-    pub fn tmsi(&self) -> u64
+    pub(crate) fn tmsi(&self) -> u64
         ensures { result ≡ self.now.amf.tmsi }
     {
         self.changes.tmsi
     }
 
     /// The next 5G-TMSI is taken.
-    pub fn take_tmsi(&mut self)
+    pub(crate) fn take_tmsi(&mut self)
         requires { self.old.amf.tmsi < 2 ^ 32 }
         ensures { self.new ≡ record self.old { amf = with_next_tmsi self.old.amf } }
     {
@@ -208,7 +208,7 @@ impl<'a> Draft<'a> {
 
     /// A challenge of a subscriber.
     #[tactic(auto, using(crate::proofs::Sqns::vector_fits))]
-    pub fn challenge(
+    pub(crate) fn challenge(
         &mut self,
         alloc: Global,
         supi: &Supi,
@@ -224,7 +224,7 @@ impl<'a> Draft<'a> {
     }
 
     /// Whether an AUTS is right. It brings SQN_HE up to SQN_MS then.
-    pub fn resync(
+    pub(crate) fn resync(
         &mut self,
         alloc: Global,
         supi: &Supi,

@@ -35,6 +35,7 @@ mod work;
 pub use crate::amf::Amf;
 pub use crate::changes::Changes;
 pub use crate::config::{AmfConfig, AmfSubscriber, AmfSubscribers, Configured};
+pub use crate::draft::Draft;
 pub use crate::inputs::{AmfInput, AmfRefusal};
 pub use crate::link::Link;
 pub use crate::outs::{AmfOut, AmfOuts, SmfAsk, SmfCall};
@@ -42,6 +43,6 @@ pub use crate::procedures::{
     Accepting, Authentication, Challenging, Deregistering, Phase, Procedure, Purpose,
 };
 pub use crate::requests::{Named, Request};
-pub use crate::stepping::{Done, follow, step};
+pub use crate::stepping::{follow, step};
 pub use crate::subscriber::{Gutis, KeptGuti, Offer, Subscriber};
 pub use crate::view::NetView;

@@ -1,26 +1,18 @@
 //! One step of an AMF.
 ghost use Rattle.std.specs.Prelude.{◌≡◌, OnOk};
-ghost use Rattle.amf_core.specs.Changes.{changed, home_now};
 ghost use Rattle.amf_core.specs.Events.{carried_down};
 ghost use Rattle.amf_core.specs.Outcome.{Works};
 ghost use Rattle.amf_core.specs.Step.{Follows, Steps, step_of, worked};
 ghost use Rattle.amf_core.specs.Work.{by};
 
-use crate::changes::Changes;
 use crate::commands::unrefused;
+use crate::draft::Draft;
 use crate::framing::Framing;
 use crate::work::Work;
 use crate::{Amf, AmfInput, AmfOuts, AmfRefusal};
 use milenage::Home;
 use nas_base::{Memory, Moment, Octets, Psi, Supi};
 use std::alloc::Global;
-
-/// What a step changes, and what goes out.
-#[derive(Drop)]
-pub struct Done {
-    changes: Changes,
-    outs: AmfOuts,
-}
 
 /// One step of an AMF: the row of an input at a moment; a challenge that starts in it has this RAND. `home` keeps each SUPI that `amf` keeps
 /// (TS 24.501 clauses 4.4, 5 and 7, TS 33.501 clause 6). It costs the records that it changes, and a walk over those of the
@@ -40,68 +32,34 @@ pub fn step(
 ) -> Result<AmfOuts, AmfRefusal>
     ensures { Steps amf.old amf.new home.old home.new result (step_of amf.old home.old now rand.now input.now) }
 {
-    let done = follow(alloc, amf, home, now, rand, input)?;
-    Ok(done.take_over(amf, home))
+    let draft = Draft::new(alloc, amf, home);
+    let (draft, outs) = follow(alloc, draft, now, rand, input)?;
+    draft.changes().take_over(amf, home);
+    Ok(outs)
 }
 
-impl Done {
-    /// What goes out.
-    pub fn outs(&self) -> &AmfOuts
-        ensures { result.now ≡ self.now.outs }
-    {
-        &self.outs
-    }
-
-    /// Takes the changes over, and answers what goes out. It takes no memory.
-    pub fn take_over(self, amf: &mut Amf, home: &mut Home) -> AmfOuts
-        ensures amf { amf.new ≡ changed self.changes amf.old }
-        ensures home { home.new ≡ home_now self.changes.home home.old }
-        ensures outs { result ≡ self.outs }
-    {
-        let Done { changes, outs } = self;
-        amf.take_over(&changes);
-        take_home(home, changes.home);
-        outs
-    }
-}
-
-// The home network becomes what it is by now.
-fn take_home(home: &mut Home, after: Option<Home>)
-    ensures { home.new ≡ home_now after home.old }
-{
-    if let Some(after) = after {
-        *home = after;
-    }
-}
-
-/// The row of an input, as `step` says it: what it changes, which is not taken over yet, and what goes out.
+/// The row of an input, as `step` says it, on what steps before it left. Its owner takes the changes over where all is done. After a
+/// refusal nothing of the draft is of use.
 ///
 /// # Errors
 ///
 /// Those of `step`.
 #[tactic(auto, unfolding(crate::specs::Step::ended))]
-pub fn follow(
+pub fn follow<'a>(
     alloc: Global,
-    amf: &Amf,
-    home: &Home,
+    draft: Draft<'a>,
     now: Moment,
     rand: &[u8; 16],
     input: &AmfInput,
-) -> Result<Done, AmfRefusal>
-    ensures { Follows amf.now home.now result (step_of amf.now home.now now rand.now input.now) }
+) -> Result<(Draft<'a>, AmfOuts), AmfRefusal>
+    ensures { Follows draft.entry result (step_of draft.entry.amf draft.entry.home now rand.now input.now) }
 {
-    let mut work = Work::new(alloc, amf, home, now, rand);
+    let mut work = Work::new(alloc, draft, now, rand);
     work.by_input(alloc, input)?;
     let (core, acts) = work.end();
     let mut framing = Framing::new(alloc, core);
     match framing.all(alloc, acts) {
-        Ok(()) => {
-            let (core, outs) = framing.end();
-            Ok(Done {
-                changes: core.changes(),
-                outs,
-            })
-        }
+        Ok(()) => Ok(framing.end()),
         Err(Memory) => Err(AmfRefusal::Memory),
     }
 }

@@ -10,8 +10,8 @@ ghost use Rattle.milenage.specs.Home.{challenge_of, challenged, resync_of, resyn
 
 use crate::acts::{Act, Acts, Protection};
 use crate::draft::Draft;
-use crate::{Amf, AmfOut, Configured, Link, SmfAsk, SmfCall, Subscriber};
-use milenage::{Home, HomeRefusal, Vector};
+use crate::{AmfOut, Configured, Link, SmfAsk, SmfCall, Subscriber};
+use milenage::{HomeRefusal, Vector};
 use mm_messages::{FiveGmmStatus, Mm, RegistrationReject};
 use nas_base::{Memory, Moment, Supi};
 use nas_elements::{Guti, Stmsi};
@@ -61,20 +61,14 @@ fn own_protection(link: &Link) -> Protection
 }
 
 impl<'a> Work<'a> {
-    /// A step at its start.
-    pub fn new(
-        alloc: Global,
-        amf: &'a Amf,
-        home: &'a Home,
-        moment: Moment,
-        rand: &[u8; 16],
-    ) -> Work<'a>
-        ensures { result ≡ record { work = started amf.now home.now moment rand.now; before = record { amf = amf.now; home = home.now } } }
+    /// A step at its start, on what those before it left.
+    pub fn new(alloc: Global, core: Draft<'a>, moment: Moment, rand: &[u8; 16]) -> Work<'a>
+        ensures { result ≡ record { work = started core.entry.amf core.entry.home moment rand.now; before = core.entry.before } }
     {
         Work {
             moment,
             rand: *rand,
-            core: Draft::new(alloc, amf, home),
+            core,
             acts: Acts::new(alloc),
         }
     }

@@ -10,7 +10,6 @@ use Rattle.mm_messages.specs.declared.security_mode.SecurityModeComplete.{Securi
 use Rattle.mm_messages.specs.declared.transport.UlNasTransport.{UlNasTransport}
 use Rattle.amf_core.specs.Authentication.{answered, asking_in, asking_on, authentication_failed, authentication_rejected, commanding, failed_by, is_expected, next_link, responded, resynchronised}
 use Rattle.amf_core.specs.Challenges.{challenge_open, ended}
-use Rattle.amf_core.specs.Drafts.{is_right}
 use Rattle.amf_core.specs.SecurityMode.{commanding_of, commanding_on, goes_on, in_use, mode_completed, mode_rejected, switched, whole_in}
 use Rattle.amf_core.specs.Service.{service_requested}
 use Rattle.amf_core.specs.Transport.{brought_down, session_of, transported}

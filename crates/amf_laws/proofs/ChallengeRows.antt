@@ -10,7 +10,6 @@ use Rattle.amf_core.specs.Challenges.{authentication, by_vector, challenge, chal
 use Rattle.amf_core.specs.Work.{Work, config_of, link_of, put, say_on}
 use Rattle.amf_core.specs.declared.acts.Protection.{Protection}
 use Rattle.amf_core.specs.declared.acts.Protection.TheVariants.{IntegrityProtectedWithNewContext}
-use Rattle.amf_core.specs.declared.draft.Draft.{Draft}
 use Rattle.amf_core.specs.declared.link.Link.{Link}
 use Rattle.amf_core.specs.declared.procedures.Challenging.{Challenging}
 use Rattle.amf_core.specs.declared.procedures.Phase.{Phase}
@@ -122,7 +121,7 @@ stopped_of_stays (procedures.Deregistering d) s w = refl
 
 stopped_links : (s : Subscriber) (w : Work) → links_now (stopped s w) ≡ links_now w
 unfolding stopped
-stopped_links s w = ap (λ (d : Draft). (by_now d).links) (stopped_of_stays s.procedure s w)
+stopped_links s w = ap (λ (a : AmfState). a.links) (stopped_of_stays s.procedure s w)
 
 pub challenge_settles : {May : List ℕ → Type 0} {b : Beginning} {q : Running} {w : Work} (purpose : Purpose) (link : Option ℕ)
     (capability : Option (List ℕ)) (s : Subscriber) → Own May b s → MayRefuse May purpose link (links_now w)

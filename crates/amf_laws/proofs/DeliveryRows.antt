@@ -61,7 +61,7 @@ waits_link : (May : List ℕ → Type 0) (number : ℕ) (waiting : Option Reques
 unfolding put_link
 waits_link May number waiting w link = λ supi e.
     link supi
-    (put_supi w.amf.changes.links w.amf.before.amf.links (record (link_of number w) { waiting = waiting }) number supi
+    (put_supi (record (link_of number w) { waiting = waiting }) number w.amf.links supi
     (link_is_own number (links_now w)) e)
 
 by_suci_chain : {May : List ℕ → Type 0} {u : Received} {w : Work} (number : ℕ) (passed : Option (List ℕ)) (r : Request) (found : Option Subscriber)
@@ -209,8 +209,8 @@ noted_link : (May : List ℕ → Type 0) (number : ℕ) (p : Passage) (w : Work)
 unfolding put put_link
 noted_link May number p w may = λ supi e.
     let passed_it : Some p.check.subscriber.supi ≡ Some supi =
-    put_supi w.amf.changes.links w.amf.before.amf.links
-    (record (link_of number w) { secure = true; supi = Some p.check.subscriber.supi }) number supi (link_is_own number (links_now w)) e in
+    put_supi (record (link_of number w) { secure = true; supi = Some p.check.subscriber.supi }) number w.amf.links supi
+    (link_is_own number (links_now w)) e in
     let one : p.check.subscriber.supi ≡ supi = cc in subst May one may
 
 passing_chain : {May : List ℕ → Type 0} (u : Received) (s : Subscriber) (p : Passage) → IsCurrent s u.first → MayPass May u.number u.octets s u.first → IsChecked u.number u.octets s p

@@ -4,7 +4,7 @@ use Rattle.std.specs.Str.{bytes_eq}
 use Rattle.nas_elements.specs.declared.guti.Guti.{Guti}
 use Rattle.milenage.specs.Home.{HomeRecord}
 use Rattle.amf_core.specs.Framing.{Framed, framed, framed_all}
-use Rattle.amf_core.specs.Keyed.{all_current, current}
+use Rattle.amf_core.specs.Keyed.{put_in}
 use Rattle.amf_core.specs.State.{AmfState, has_supi, is_same_subscriber}
 use Rattle.amf_core.specs.Step.{ended, finished, framed_of, started, step_of, worked}
 use Rattle.amf_core.specs.Work.{Work, put, put_link, subscriber}
@@ -17,32 +17,27 @@ use Rattle.amf_core.specs.declared.inputs.AmfRefusal.{AmfRefusal}
 use Rattle.amf_core.specs.declared.subscriber.Subscriber.{Subscriber}
 use Rattle.amf_laws.proofs.Chains.{Chain, Received, kept_now}
 use Rattle.amf_laws.proofs.Chains.Chain.{nothing, speaks, waits, passes, does}
-use Rattle.amf_laws.proofs.FitLaws.{before_stays, chain_before, checked_is_of}
+use Rattle.amf_laws.proofs.FitLaws.{checked_is_of}
 use Rattle.amf_laws.proofs.FramedFit.{Sends, framed_now, says_send}
 use Rattle.amf_laws.proofs.FramedFit.Sends.{unsent, goes, counts}
 use Rattle.amf_laws.proofs.Moves.{Beginning, Moves}
 use Rattle.amf_laws.proofs.Moves.Moves.{here, said, asked, starts, stops, puts, links, homes, numbers}
-use Rattle.amf_laws.proofs.PassedLaws.{IsAtStart, kept_at_start}
-use Rattle.amf_laws.proofs.StepRows.{Comes, ComesBy, MayHave, all_before, input_comes}
+use Rattle.amf_laws.proofs.PassedLaws.{IsAtStart}
+use Rattle.amf_laws.proofs.StepRows.{Comes, ComesBy, MayHave, input_comes}
 use Rattle.amf_laws.proofs.StepRows.Comes.{chains, settles, stays}
-use Rattle.amf_laws.proofs.Records.{changed_first, found_among}
+use Rattle.amf_laws.proofs.Records.{among_or, found_among}
 use Rattle.amf_laws.proofs.TimerLaws.{any_may}
 use Rattle.amf_laws.specs.Kept.{AreFew, KeepFew, StayFew}
 use Rattle.amf_laws.specs.Timers.{Running}
 
--- one more record that changes is of those that keep two at most
-first_few : (changes : List Subscriber) (x new s : Subscriber) (same : Bool) → bytes_eq x.supi new.supi ≡ same → AreFew new.kept
-    → (current is_same_subscriber changes x ≡ s → AreFew s.kept) → current is_same_subscriber (new ∷ changes) x ≡ s → AreFew s.kept
-first_few changes x new s true e few rest is =
-    let one : new ≡ s = sym (changed_first changes new x true e) ∙ is in subst (λ (y : Subscriber). AreFew y.kept) one few
-first_few changes x new s false e few rest is = rest (sym (changed_first changes new x false e) ∙ is)
-
-changed_few : (changes subscribers : List Subscriber) (new : Subscriber) → AreFew new.kept
-    → KeepFew (all_current is_same_subscriber changes subscribers) → KeepFew (all_current is_same_subscriber (new ∷ changes) subscribers)
-changed_few changes [] new few h s among = absurd among
-changed_few changes (x ∷ subscribers) new few h s (inl is) =
-    first_few changes x new s (bytes_eq x.supi new.supi) refl few (λ old. h s (inl old)) is
-changed_few changes (x ∷ subscribers) new few h s (inr among) = changed_few changes subscribers new few (λ y is. h y (inr is)) s among
+-- one more record that keeps two at most
+put_few : (new : Subscriber) (subscribers : List Subscriber) → AreFew new.kept → KeepFew subscribers
+    → KeepFew (put_in is_same_subscriber new subscribers)
+put_few new subscribers few h s among = by_either (among_or new s subscribers among)
+  where
+    by_either : (new ≡ s) ⊎ IsAmong s subscribers → AreFew s.kept
+    by_either (inl is) = subst (λ (y : Subscriber). AreFew y.kept) is few
+    by_either (inr old) = h s old
 
 -- moves
 moves_few : {May : List ℕ → Type 0} {b : Beginning} {p q : Running} {w : Work} → AreFew b.kept → KeepFew (kept_now b.first) → Moves May b p q w
@@ -54,7 +49,7 @@ moves_few few begin (asked call s h) = moves_few few begin h
 moves_few few begin (starts id s e h) = moves_few few begin h
 moves_few few begin (stops id s e h) = moves_few few begin h
 moves_few few begin (puts {p} {q} {w} s e h) =
-    changed_few w.amf.changes.subscribers w.amf.before.amf.subscribers s (e.1 few) (moves_few few begin h)
+    put_few s (kept_now w) (e.1 few) (moves_few few begin h)
 moves_few few begin (links number supi waiting h) = moves_few few begin h
 moves_few few begin (homes home h) = moves_few few begin h
 moves_few few begin (numbers h) = moves_few few begin h
@@ -65,7 +60,7 @@ chain_few begin nothing = begin
 chain_few begin (speaks number protection message may h) = chain_few begin h
 chain_few begin (waits number supi waiting h) = chain_few begin h
 chain_few {May} {u} begin (passes s p is may checked) =
-    changed_few u.first.amf.changes.subscribers u.first.amf.before.amf.subscribers p.check.subscriber
+    put_few p.check.subscriber (kept_now u.first)
     (subst (λ (y : List Guti). AreFew y) (sym (checked_is_of u.number u.octets s p checked).kept) (begin s is.among)) begin
 chain_few begin (does s is may done h) = moves_few (chain_few begin h s is.among) (chain_few begin h) done.moves
 
@@ -74,7 +69,7 @@ sends_few : {protection : Protection} {f g : Framed} → KeepFew (framed_now f) 
 sends_few begin unsent = begin
 sends_few begin (goes number octets pass s) = sends_few begin s
 sends_few begin (counts {g} old new of is found s) =
-    changed_few g.amf.changes.subscribers g.amf.before.amf.subscribers new
+    put_few new (framed_now g)
     (subst (λ (y : List Guti). AreFew y) (sym of.kept) (sends_few begin s old (found_among (has_supi old.supi) (framed_now g) old found)))
     (sends_few begin s)
 
@@ -89,33 +84,22 @@ acts_few (act ∷ acts) f begin = acts_few acts (framed act f) (act_few act f be
 
 -- what the row of an input leaves
 start_few : (a : AmfState) (w : Work) → IsAtStart a w → KeepFew a.subscribers → KeepFew (kept_now w)
-start_few a w at_start few = subst (λ (y : List Subscriber). KeepFew y) (sym (kept_at_start a w at_start)) few
+start_few a w at_start few = subst (λ (y : List Subscriber). KeepFew y) (sym at_start.kept) few
 
-comes_few : (a : AmfState) (w : Work) → KeepFew a.subscribers → Comes (λ (y : List ℕ). Unit {0}) a w
-    → KeepFew (kept_now w) × (w.amf.before.amf ≡ a)
-comes_few a w few (chains u at_start h) = (
-  chain_few (start_few a u.first at_start few) h,
-  ap (λ (y : BeforeState). y.amf) (chain_before h) ∙ at_start.before,
-)
-comes_few a w few (settles b s one done) = (
-  moves_few
-      (subst (λ (y : List Guti). AreFew y) (sym one.kept) (start_few a b.first one.at_start few s one.among))
-      (start_few a b.first one.at_start few) done.moves,
-  ap (λ (y : BeforeState). y.amf) (before_stays done.moves) ∙ one.at_start.before,
-)
-comes_few a w few (stays at_start) = (start_few a w at_start few, at_start.before)
+comes_few : (a : AmfState) (w : Work) → KeepFew a.subscribers → Comes (λ (y : List ℕ). Unit {0}) a w → KeepFew (kept_now w)
+comes_few a w few (chains u at_start h) = chain_few (start_few a u.first at_start few) h
+comes_few a w few (settles b s one done) =
+    moves_few
+    (subst (λ (y : List Guti). AreFew y) (sym one.kept) (start_few a b.first one.at_start few s one.among))
+    (start_few a b.first one.at_start few) done.moves
+comes_few a w few (stays at_start) = start_few a w at_start few
 
-few_at_end : (a : AmfState) (home : List HomeRecord) (done : Result Work AmfRefusal) → ComesBy (λ (y : List ℕ). Unit {0}) a done
-    → StayFew a (finished done)
+few_at_end : (a : AmfState) (done : Result Work AmfRefusal) → ComesBy (λ (y : List ℕ). Unit {0}) a done → StayFew a (finished done)
 unfolding ended
-few_at_end a home (Ok w) h = λ few.
-    let are = comes_few a w few h in
-    let f : Framed = record { amf = w.amf; outs = [] } in
-    subst (λ (y : AmfState). KeepFew (all_current is_same_subscriber (framed_of w).amf.changes.subscribers y.subscribers))
-    (ap (λ (y : BeforeState). y.amf) (all_before w.acts f) ∙ are.1) (acts_few w.acts f are.0)
-few_at_end a home (Err refusal) h = tt
+few_at_end a (Ok w) h = λ few. acts_few w.acts (record { amf = w.amf; outs = [] }) (comes_few a w few h)
+few_at_end a (Err refusal) h = tt
 
-any_have : (a : AmfState) (home : List HomeRecord) (now : ℕ) (rand : List ℕ) (input : AmfInput)
+pub any_have : (a : AmfState) (home : List HomeRecord) (now : ℕ) (rand : List ℕ) (input : AmfInput)
     → MayHave (λ (y : List ℕ). Unit {0}) a home now rand input
 any_have a home now rand (Uplink number fresh octets) = any_may _
 any_have a home now rand (Dropped number) = λ _ _. tt
@@ -129,5 +113,5 @@ any_have a home now rand (Down supi psi frame) = tt
 pub kept_lists_have_two_at_most : (a : AmfState) (home : List HomeRecord) (now : ℕ) (rand : List ℕ) (input : AmfInput)
     → StayFew a (step_of a home now rand input)
 kept_lists_have_two_at_most a home now rand input =
-    few_at_end a home (worked input (started a home now rand))
+    few_at_end a (worked input (started a home now rand))
     (input_comes (λ (y : List ℕ). Unit {0}) a home now rand input (any_have a home now rand input))

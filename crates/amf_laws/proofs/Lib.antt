@@ -14,6 +14,7 @@ pub mod PassedLaws
 pub mod Records
 pub mod RegistrationRows
 pub mod StepRows
+pub mod SupiLaws
 pub mod TimerLaws
 pub mod Told
 pub mod UncheckedLaws

@@ -4,7 +4,6 @@ use Rattle.std.proofs.lemmas.Bool.Decides.{nat_tests}
 use Rattle.milenage.specs.Home.{HomeRecord}
 use Rattle.amf_core.specs.Delivery.{freshened, received}
 use Rattle.amf_core.specs.Framing.{Framed, framed, framed_all}
-use Rattle.amf_core.specs.Keyed.{all_current}
 use Rattle.amf_core.specs.State.{AmfState, is_same_link, link_in}
 use Rattle.amf_core.specs.Step.{ended, started, worked}
 use Rattle.nas_timers.specs.Durations.{deadline_after, duration_of}
@@ -21,7 +20,6 @@ use Rattle.nas_base.proofs.Branching.{when_true}
 use Rattle.amf_laws.proofs.Chains.{Chain, Received}
 use Rattle.amf_laws.proofs.Chains.Chain.{nothing, speaks, waits, passes, does}
 use Rattle.amf_laws.proofs.DeliveryRows.{received_chain}
-use Rattle.amf_laws.proofs.FitLaws.{chain_before}
 use Rattle.amf_laws.proofs.FramedFit.{Sends, says_send}
 use Rattle.amf_laws.proofs.FramedFit.Sends.{unsent, goes, counts}
 use Rattle.amf_laws.proofs.LinkRecords.{link_number, stays_unset, unset_link}
@@ -117,17 +115,17 @@ all_tell (act ∷ acts) f e = by_either (either (act_passed act) (acts_passed ac
     by_either (inr later) rest = rest later
 
 -- links stay when messages go out
-sends_links : {protection : Protection} {f g : Framed} → Sends protection f g → g.amf.changes.links ≡ f.amf.changes.links
+sends_links : {protection : Protection} {f g : Framed} → Sends protection f g → g.amf.links ≡ f.amf.links
 sends_links unsent = refl
 sends_links (goes number octets pass s) = sends_links s
 sends_links (counts old new of is found s) = sends_links s
 
-framed_links : (act : Act) (f : Framed) → (framed act f).amf.changes.links ≡ f.amf.changes.links
+framed_links : (act : Act) (f : Framed) → (framed act f).amf.links ≡ f.amf.links
 unfolding framed
 framed_links (Tell out) f = refl
 framed_links (Say number protection message) f = sends_links (says_send number protection message)
 
-pub all_links : (acts : List Act) (f : Framed) → (framed_all acts f).amf.changes.links ≡ f.amf.changes.links
+pub all_links : (acts : List Act) (f : Framed) → (framed_all acts f).amf.links ≡ f.amf.links
 all_links [] f = refl
 all_links (act ∷ acts) f = all_links acts (framed act f) ∙ framed_links act f
 
@@ -136,8 +134,8 @@ put_unset : (n m : ℕ) (supi : Option (List ℕ)) (waiting : Option Request) (w
     → (link_of n (put_link (record (link_of m w) { supi = supi; waiting = waiting }) w)).secure ≡ false
 unfolding put_link
 put_unset n m supi waiting w unset =
-    stays_unset w.amf.changes.links w.amf.before.amf.links (record (link_of m w) { supi = supi; waiting = waiting }) n
-    (sym (ap (λ (k : ℕ). (link_of k w).secure) (link_number m (all_current is_same_link w.amf.changes.links w.amf.before.amf.links)))) unset
+    stays_unset (record (link_of m w) { supi = supi; waiting = waiting }) n w.amf.links
+    (sym (ap (λ (k : ℕ). (link_of k w).secure) (link_number m w.amf.links))) unset
 
 moves_unset : (n : ℕ) {May : List ℕ → Type 0} {b : Beginning} {p q : Running} {w : Work} → (link_of n b.first).secure ≡ false → Moves May b p q w
     → (link_of n w).secure ≡ false
@@ -205,33 +203,26 @@ pub fresh_unset : (n : ℕ) (w : Work) → (link_of n (freshened true n w)).secu
 unfolding freshened put_link
 fresh_unset n w =
     ap (λ (x : Work). (link_of n x).secure) (when_true true _ w refl)
-    ∙ unset_link w.amf.changes.links w.amf.before.amf.links (record (link_of n w) { secure = false }) n
-    (same_is n (link_of n w).number (link_number n (all_current is_same_link w.amf.changes.links w.amf.before.amf.links))) refl
+    ∙ unset_link (record (link_of n w) { secure = false }) n w.amf.links (same_is n (link_of n w).number (link_number n w.amf.links)) refl
 
-marked_end : (a : AmfState) (home : List HomeRecord) (n : ℕ) (w : Work) → w.amf.before.amf ≡ a → Marked n w
-    → (link_in n (ended w).amf.links).secure ≡ true → has_passed (ended w).outs ≡ true
+marked_end : (n : ℕ) (w : Work) → Marked n w → (link_in n (ended w).amf.links).secure ≡ true → has_passed (ended w).outs ≡ true
 unfolding ended
-marked_end a home n w before (is_told e) = λ _. all_tell w.acts (record { amf = w.amf; outs = [] }) e
-marked_end a home n w before (is_unset e) = λ secure.
+marked_end n w (is_told e) = λ _. all_tell w.acts (record { amf = w.amf; outs = [] }) e
+marked_end n w (is_unset e) = λ secure.
     let same : (link_in n (ended w).amf.links).secure ≡ (link_of n w).secure =
-    ap (λ (x : List Link). (link_in n (all_current is_same_link x a.links)).secure) (all_links w.acts (record { amf = w.amf; outs = [] }))
-    ∙ sym (ap (λ (x : AmfState). (link_in n (all_current is_same_link w.amf.changes.links x.links)).secure) before) in
+    ap (λ (x : List Link). (link_in n x).secure) (all_links w.acts (record { amf = w.amf; outs = [] })) in
     let not_secure : true ≡ false = sym secure ∙ same ∙ e in
     absurd (cc)
 
-marks : (a : AmfState) (home : List HomeRecord) (number : ℕ) (octets : List ℕ) (w : Work) → w.amf.before.amf ≡ a
-    → (link_of number w).secure ≡ false
-    → (link_in number (ended (received number octets w)).amf.links).secure ≡ true
-    → has_passed (ended (received number octets w)).outs ≡ true
-marks a home number octets w before unset =
+marks : (number : ℕ) (octets : List ℕ) (w : Work) → (link_of number w).secure ≡ false
+    → (link_in number (ended (received number octets w)).amf.links).secure ≡ true → has_passed (ended (received number octets w)).outs ≡ true
+marks number octets w unset =
     let u : Received = record { number = number; octets = octets; first = w } in
     let chain : Chain (λ (y : List ℕ). Unit {0}) u (received number octets w) = received_chain u (any_may u) in
-    marked_end a home number (received number octets w) (ap (λ (y : BeforeState). y.amf) (chain_before chain) ∙ before)
-    (chain_marked number unset chain)
+    marked_end number (received number octets w) (chain_marked number unset chain)
 
 pub fresh_uplink_clears_the_mark : (a : AmfState) (home : List HomeRecord) (now : ℕ) (rand : List ℕ) (number : ℕ) (octets : List ℕ)
     → SecuresWherePassing number (Uplinks a home now rand number true octets)
 unfolding worked
 fresh_uplink_clears_the_mark a home now rand number octets =
-    marks a home number octets (freshened true number (started a home now rand)) (freshened_at_start a home now rand true number).before
-    (fresh_unset number (started a home now rand))
+    marks number octets (freshened true number (started a home now rand)) (fresh_unset number (started a home now rand))

@@ -13,10 +13,10 @@ use Rattle.mm_messages.specs.declared.message.MmRefusal.{MmRefusal}
 use Rattle.amf_core.specs.Checks.{Passage, checked_in_use, checked_pending, noted, opened, passed_in_use, passed_pending}
 use Rattle.amf_core.specs.Delivery.{freshened, message_of, named_inside, sender}
 use Rattle.amf_core.specs.Framing.{Framed, framed, framed_all}
-use Rattle.amf_core.specs.Keyed.{all_current, current, found}
+use Rattle.amf_core.specs.Keyed.{found}
 use Rattle.amf_core.specs.Naming.{is_any, is_guti, keeps_guti, keeps_stmsi, kept_for, suci_digits}
 use Rattle.amf_core.specs.SecurityMode.{commanding_on}
-use Rattle.amf_core.specs.State.{AmfState, is_same_link, is_same_subscriber, link_in, subscriber_in}
+use Rattle.amf_core.specs.State.{AmfState, link_in, subscriber_in}
 use Rattle.amf_core.specs.Step.{ended, finished, framed_of, started, step_of, worked}
 use Rattle.amf_core.specs.Work.{Work, config_of, link_of, put, put_link, subscriber, subscriber_of_link}
 use Rattle.amf_core.specs.declared.acts.Act.{Act}
@@ -33,15 +33,15 @@ use Rattle.nas_base.proofs.Branching.{per_holds, when_holds}
 use Rattle.amf_laws.proofs.Chains.{Chain, IsChecked, Received, kept_now, link_is_current}
 use Rattle.amf_laws.proofs.Chains.Chain.{nothing, speaks, waits, passes, does}
 use Rattle.amf_laws.proofs.DeliveryRows.{MayNamed, MayPass, MayReceive, named_by, named_if, named_in, names, sender_is_current}
-use Rattle.amf_laws.proofs.FitLaws.{IsOf, before_stays, chain_before, checked_is_of, other_stays}
+use Rattle.amf_laws.proofs.FitLaws.{IsOf, checked_is_of, other_stays}
 use Rattle.amf_laws.proofs.FramedFit.{IsFor, Sends, framed_now, says_send}
 use Rattle.amf_laws.proofs.FramedFit.Sends.{unsent, goes, counts}
 use Rattle.amf_laws.proofs.LinkRecords.{link_is_own, put_supi}
 use Rattle.amf_laws.proofs.Moves.{Beginning, MayLink, MayProtect, Moves, links_now}
 use Rattle.amf_laws.proofs.Moves.Moves.{here, said, asked, starts, stops, puts, links, homes, numbers}
-use Rattle.amf_laws.proofs.PassedLaws.{IsAtStart, freshened_at_start, kept_at_start, pass_told}
-use Rattle.amf_laws.proofs.Records.{are_equal, changed_first, found_among, found_has, other_is_found, unchanged_stay}
-use Rattle.amf_laws.proofs.StepRows.{Comes, ComesBy, MayHave, all_before, input_comes}
+use Rattle.amf_laws.proofs.PassedLaws.{IsAtStart, freshened_at_start, pass_told}
+use Rattle.amf_laws.proofs.Records.{among_or, are_equal, found_among, found_has, other_is_found}
+use Rattle.amf_laws.proofs.StepRows.{Comes, ComesBy, MayHave, input_comes}
 use Rattle.amf_laws.proofs.StepRows.Comes.{chains, settles, stays}
 use Rattle.amf_laws.specs.Others.{Concerns, IsKeeper, IsLinked, IsReadIn, Names, OpenTo, OthersStay, identity_in}
 use Rattle.amf_laws.specs.Passing.{IsAmong}
@@ -101,7 +101,7 @@ chain_stays May x not_x nothing = refl
 chain_stays May x not_x (speaks number protection message may h) = chain_stays May x not_x h
 chain_stays May x not_x (waits number supi waiting h) = chain_stays May x not_x h
 chain_stays May x {u} not_x (passes s p is may checked) =
-    other_is_found u.first.amf.changes.subscribers u.first.amf.before.amf.subscribers p.check.subscriber x
+    other_is_found p.check.subscriber x (kept_now u.first)
     (ap (λ (y : List ℕ). bytes_eq y x) (checked_is_of u.number u.octets s p checked).supi ∙ other_than May x s.supi not_x may)
 chain_stays May x not_x (does s is may done h) =
     other_stays x (other_than May x s.supi not_x may) done.moves ∙ chain_stays May x not_x h
@@ -117,7 +117,7 @@ sends_stay : (May : List ℕ → Type 0) (x : List ℕ) (protection : Protection
 sends_stay May x protection not_x may unsent = refl
 sends_stay May x protection not_x may (goes number octets pass s) = sends_stay May x protection not_x may s
 sends_stay May x protection not_x may (counts {g} old new of is found s) =
-    other_is_found g.amf.changes.subscribers g.amf.before.amf.subscribers new x
+    other_is_found new x (framed_now g)
     (ap (λ (y : List ℕ). bytes_eq y x) of.supi ∙ other_than May x old.supi not_x (may_for May protection old.supi may is))
     ∙ sends_stay May x protection not_x may s
 
@@ -136,10 +136,9 @@ acts_stay May x (act ∷ acts) f not_x may = acts_stay May x acts (framed act f)
 record Stays (May : List ℕ → Type 0) (x : List ℕ) (a : AmfState) (w : Work) : Type 0 where
   found : subscriber_in x (kept_now w) ≡ subscriber_in x a.subscribers
   acts : ActsFor May w.acts
-  before : w.amf.before.amf ≡ a
 
 start_stays : (x : List ℕ) (a : AmfState) (w : Work) → IsAtStart a w → subscriber_in x (kept_now w) ≡ subscriber_in x a.subscribers
-start_stays x a w h = ap (λ (y : List Subscriber). subscriber_in x y) (kept_at_start a w h)
+start_stays x a w h = ap (λ (y : List Subscriber). subscriber_in x y) h.kept
 
 start_for : (May : List ℕ → Type 0) (a : AmfState) (w : Work) → IsAtStart a w → ActsFor May w.acts
 start_for May a w h = subst (λ (y : List Act). ActsFor May y) (sym h.acts) tt
@@ -148,27 +147,22 @@ comes_stays : (May : List ℕ → Type 0) (x : List ℕ) (a : AmfState) (w : Wor
 comes_stays May x a w not_x (chains u at_start h) = record {
   found = chain_stays May x not_x h ∙ start_stays x a u.first at_start;
   acts = chain_for May (start_for May a u.first at_start) h;
-  before = ap (λ (y : BeforeState). y.amf) (chain_before h) ∙ at_start.before;
 }
 comes_stays May x a w not_x (settles b s one done) = record {
   found = other_stays x (ap (λ (y : List ℕ). bytes_eq y x) one.supi ∙ other_than May x s.supi not_x one.may) done.moves
       ∙ start_stays x a b.first one.at_start;
   acts = moves_for May (start_for May a b.first one.at_start) done.moves;
-  before = ap (λ (y : BeforeState). y.amf) (before_stays done.moves) ∙ one.at_start.before;
 }
 comes_stays May x a w not_x (stays at_start) =
-    record { found = start_stays x a w at_start; acts = start_for May a w at_start; before = at_start.before }
+    record { found = start_stays x a w at_start; acts = start_for May a w at_start }
 
-others_at_end : (a : AmfState) (home : List HomeRecord) (input : AmfInput) (done : Result Work AmfRefusal) → ComesBy (Concerns a input) a done
+others_at_end : (a : AmfState) (input : AmfInput) (done : Result Work AmfRefusal) → ComesBy (Concerns a input) a done
     → OthersStay a input (finished done)
 unfolding ended
-others_at_end a home input (Ok w) h = λ x not_x.
+others_at_end a input (Ok w) h = λ x not_x.
     let are : Stays (Concerns a input) x a w = comes_stays (Concerns a input) x a w not_x h in
-    let f : Framed = record { amf = w.amf; outs = [] } in
-    sym (ap (λ (y : AmfState). subscriber_in x (all_current is_same_subscriber (framed_of w).amf.changes.subscribers y.subscribers))
-    (ap (λ (y : BeforeState). y.amf) (all_before w.acts f) ∙ are.before))
-    ∙ acts_stay (Concerns a input) x w.acts f not_x are.acts ∙ are.found
-others_at_end a home input (Err refusal) h = tt
+    acts_stay (Concerns a input) x w.acts (record { amf = w.amf; outs = [] }) not_x are.acts ∙ are.found
+others_at_end a input (Err refusal) h = tt
 
 -- what is found holds what it was found by
 is_first : (is : Subscriber → Bool) (x s : Subscriber) (rest : Option Subscriber) (here_is : Bool) → is x ≡ here_is
@@ -185,7 +179,7 @@ pub keeper_at_start : (is : Subscriber → Bool) (a : AmfState) (w : Work) (s : 
     → IsKeeper is a s.supi
 keeper_at_start is a w s h e = record {
   subscriber = s;
-  is_kept = subst (λ (y : List Subscriber). IsAmong s y) (kept_at_start a w h) (found_among is (kept_now w) s e);
+  is_kept = subst (λ (y : List Subscriber). IsAmong s y) h.kept (found_among is (kept_now w) s e);
   is_its = refl;
   keeps = found_is is (kept_now w) s e;
 }
@@ -211,33 +205,17 @@ record WasKept (a : AmfState) (s : Subscriber) : Type 0 where
   is_its : old.supi ≡ s.supi
   keeps : old.kept ≡ s.kept
 
-changed_or : (changes : List Subscriber) (x new s : Subscriber) (same : Bool) → bytes_eq x.supi new.supi ≡ same
-    → current is_same_subscriber (new ∷ changes) x ≡ s → (new ≡ s) ⊎ (current is_same_subscriber changes x ≡ s)
-changed_or changes x new s true e is = inl (sym (changed_first changes new x true e) ∙ is)
-changed_or changes x new s false e is = inr (sym (changed_first changes new x false e) ∙ is)
-
-lifted_or : {A B C : Type 0} → A ⊎ B → (B → C) → A ⊎ C
-lifted_or (inl x) f = inl x
-lifted_or (inr y) f = inr (f y)
-
-among_or : (changes subscribers : List Subscriber) (new s : Subscriber) → IsAmong s (all_current is_same_subscriber (new ∷ changes) subscribers)
-    → (new ≡ s) ⊎ IsAmong s (all_current is_same_subscriber changes subscribers)
-among_or changes [] new s h = absurd h
-among_or changes (x ∷ subscribers) new s (inl is) =
-    lifted_or (changed_or changes x new s (bytes_eq x.supi new.supi) refl is) (λ old. inl old)
-among_or changes (x ∷ subscribers) new s (inr h) = lifted_or (among_or changes subscribers new s h) (λ rest. inr rest)
-
 was_kept : (a : AmfState) (w : Work) (number : ℕ) (old : Subscriber) (p : Passage) (s : Subscriber) → IsAtStart a w → IsOf old p
     → IsAmong old (kept_now w) → (p.check.subscriber ≡ s) ⊎ IsAmong s (kept_now w) → WasKept a s
 was_kept a w number old p s h of among (inl is) = record {
   old = old;
-  is_kept = subst (λ (y : List Subscriber). IsAmong old y) (kept_at_start a w h) among;
+  is_kept = subst (λ (y : List Subscriber). IsAmong old y) h.kept among;
   is_its = sym of.supi ∙ ap (λ (y : Subscriber). y.supi) is;
   keeps = sym of.kept ∙ ap (λ (y : Subscriber). y.kept) is;
 }
 was_kept a w number old p s h of among (inr is) = record {
   old = s;
-  is_kept = subst (λ (y : List Subscriber). IsAmong s y) (kept_at_start a w h) is;
+  is_kept = subst (λ (y : List Subscriber). IsAmong s y) h.kept is;
   is_its = refl;
   keeps = refl;
 }
@@ -249,7 +227,7 @@ names_noted a w number old p (identities.Suci x) s h of among e = sym (found_has
 names_noted a w number old p (identities.Guti g) s h of among e =
     let was : WasKept a s =
     was_kept a w number old p s h of among
-    (among_or w.amf.changes.subscribers w.amf.before.amf.subscribers p.check.subscriber s
+    (among_or p.check.subscriber s (kept_now w)
     (found_among (keeps_guti g) (kept_now (noted number p.check w)) s e)) in
     record {
       subscriber = was.old;
@@ -357,7 +335,7 @@ passed_names : (a : AmfState) (number : ℕ) (fresh : Bool) (octets : List ℕ) 
 passed_names a number fresh octets w old p (Ok m) h among checked is = λ s e.
     let by = named_by_identity m (noted number p.check w) s e in
     let opens : OpenTo a number octets p.message =
-    checked_opens a number octets old p (subst (λ (y : List Subscriber). IsAmong old y) (kept_at_start a w h) among) checked in
+    checked_opens a number octets old p (subst (λ (y : List Subscriber). IsAmong old y) h.kept among) checked in
     inr (record {
       message = m;
       identity = by.identity;
@@ -381,10 +359,8 @@ unfolding freshened put_link
 linked_before a home now rand number fresh supi =
     when_holds (λ (x : Work). (link_of number x).supi ≡ Some supi → IsLinked a number supi) fresh _ _
     (λ _ e.
-    ap (λ (y : List Link). (link_in number y).supi) (sym (unchanged_stay is_same_link a.links))
-    ∙ put_supi [] a.links (record (link_of number (started a home now rand)) { secure = false }) number supi
-    (link_is_own number (links_now (started a home now rand))) e)
-    (λ _ e. ap (λ (y : List Link). (link_in number y).supi) (sym (unchanged_stay is_same_link a.links)) ∙ e)
+    put_supi (record (link_of number (started a home now rand)) { secure = false }) number a.links supi (link_is_own number a.links) e)
+    (λ _ e. e)
 
 link_concerns : (May : List ℕ → Type 0) (number : ℕ) (w : Work) → MayLink May number (links_now w)
     → (s : Subscriber) → subscriber_of_link number w ≡ Some s → May s.supi
@@ -435,5 +411,5 @@ concerns_have a home now rand (Down supi psi frame) = refl
 pub other_subscribers_stay : (a : AmfState) (home : List HomeRecord) (now : ℕ) (rand : List ℕ) (input : AmfInput)
     → OthersStay a input (step_of a home now rand input)
 other_subscribers_stay a home now rand input =
-    others_at_end a home input (worked input (started a home now rand))
+    others_at_end a input (worked input (started a home now rand))
     (input_comes (Concerns a input) a home now rand input (concerns_have a home now rand input))

@@ -12,7 +12,7 @@ use Rattle.amf_core.specs.Checks.{Opened, Passage, checked_in_use, checked_pendi
 use Rattle.amf_core.specs.Delivery.{freshened, received}
 use Rattle.amf_core.specs.Framing.{Framed, framed, framed_all}
 use Rattle.amf_core.specs.SecurityMode.{commanding_on}
-use Rattle.amf_core.specs.State.{AmfState, is_same_subscriber}
+use Rattle.amf_core.specs.State.{AmfState}
 use Rattle.amf_core.specs.Step.{ended, started, worked}
 use Rattle.nas_timers.specs.Durations.{deadline_after, duration_of}
 use Rattle.amf_core.specs.Work.{Work, config_of, put, put_link}
@@ -30,7 +30,6 @@ use Rattle.amf_laws.proofs.FramedFit.{Sends, says_send}
 use Rattle.amf_laws.proofs.FramedFit.Sends.{unsent, goes, counts}
 use Rattle.amf_laws.proofs.Moves.{Beginning, Moves}
 use Rattle.amf_laws.proofs.Moves.Moves.{here, said, asked, starts, stops, puts, links, homes, numbers}
-use Rattle.amf_laws.proofs.Records.{unchanged_stay}
 use Rattle.amf_laws.proofs.TimerLaws.{any_may}
 use Rattle.amf_laws.specs.Passing.{AllPassed, IsAmong, OpensWherePassing, Uplinks, WasChecked}
 use Rattle.amf_laws.specs.Timers.{Running}
@@ -192,18 +191,14 @@ checked_passes a number octets s p small among (inr e) = pending_passes a number
 -- where octets come up, nothing of a subscriber has changed yet, and nothing was told
 pub record IsAtStart (a : AmfState) (w : Work) : Type 0 where
   pub acts : w.acts ≡ []
-  pub changes : w.amf.changes.subscribers ≡ []
-  pub before : w.amf.before.amf ≡ a
+  pub kept : kept_now w ≡ a.subscribers
 
 pub freshened_at_start : (a : AmfState) (home : List HomeRecord) (now : ℕ) (rand : List ℕ) (fresh : Bool) (number : ℕ)
     → IsAtStart a (freshened fresh number (started a home now rand))
 unfolding freshened put_link
 freshened_at_start a home now rand fresh number =
-    when_holds (λ (x : Work). IsAtStart a x) fresh _ _ (λ _. record { acts = refl; changes = refl; before = refl })
-    (λ _. record { acts = refl; changes = refl; before = refl })
-
-pub kept_at_start : (a : AmfState) (w : Work) → IsAtStart a w → kept_now w ≡ a.subscribers
-kept_at_start a w h = rw (h.changes, h.before) (unchanged_stay is_same_subscriber a.subscribers)
+    when_holds (λ (x : Work). IsAtStart a x) fresh _ _ (λ _. record { acts = refl; kept = refl })
+    (λ _. record { acts = refl; kept = refl })
 
 opened_at_end : (a : AmfState) (home : List HomeRecord) (number : ℕ) (octets : List ℕ) (w : Work) → get_or octets 6 0 < 256
     → IsAtStart a w → AllPassed (WasChecked a number octets) (ended (received number octets w)).outs
@@ -214,7 +209,7 @@ opened_at_end a home number octets w small h =
     acts_pass (WasChecked a number octets) (received number octets w).acts (record { amf = (received number octets w).amf; outs = [] }) tt
     (chain_passed (WasChecked a number octets) (subst (λ (y : List Act). ActsPassed (WasChecked a number octets) y) (sym h.acts) tt)
     (λ s p among checked.
-    checked_passes a number octets s p small (subst (λ (y : List Subscriber). IsAmong s y) (kept_at_start a w h) among) checked) chain)
+    checked_passes a number octets s p small (subst (λ (y : List Subscriber). IsAmong s y) h.kept among) checked) chain)
 
 pub opened_where_passing : (a : AmfState) (home : List HomeRecord) (now : ℕ) (rand : List ℕ) (number : ℕ) (fresh : Bool) (octets : List ℕ)
     → get_or octets 6 0 < 256 → OpensWherePassing a number octets (Uplinks a home now rand number fresh octets)

@@ -29,7 +29,7 @@ use Rattle.amf_laws.proofs.FramedFit.Sends.{unsent, goes, counts}
 use Rattle.amf_laws.proofs.Moves.{Beginning, Settled, begins, settled}
 use Rattle.amf_laws.proofs.Moves.Moves.{here}
 use Rattle.amf_laws.proofs.PassedLaws.{IsAtStart, freshened_at_start}
-use Rattle.amf_laws.proofs.Records.{found_among, found_has, unchanged_stay}
+use Rattle.amf_laws.proofs.Records.{found_among, found_has}
 use Rattle.amf_laws.specs.Passing.{IsAmong}
 use Rattle.amf_laws.specs.Timers.{running_in, with_timer}
 
@@ -110,7 +110,7 @@ expired_comes May a supi id w at_start may =
 
 unused_at_start : (a : AmfState) (number : ℕ) (w : Work) → IsAtStart a w → IsAtStart a (put_link (unused number) w)
 unfolding put_link
-unused_at_start a number w h = record { acts = h.acts; changes = h.changes; before = h.before }
+unused_at_start a number w h = record { acts = h.acts; kept = h.kept }
 
 lost_comes : (May : List ℕ → Type 0) (a : AmfState) (supi : Option (List ℕ)) (number : ℕ) (w : Work) → IsAtStart a w
     → ((x : List ℕ) → supi ≡ Some x → May x) → Comes May a (lost_for supi number w)
@@ -119,7 +119,7 @@ lost_comes May a supi number w at_start may =
     (λ x e. of_supi_comes May a x (link_lost_of number) w at_start (may x e) (λ s m. lost_settles number s (refl, λ few. few, m) here))
 
 at_first : (a : AmfState) (home : List HomeRecord) (now : ℕ) (rand : List ℕ) → IsAtStart a (started a home now rand)
-at_first a home now rand = record { acts = refl; changes = refl; before = refl }
+at_first a home now rand = record { acts = refl; kept = refl }
 
 -- the row of each input
 pub input_comes : (May : List ℕ → Type 0) (a : AmfState) (home : List HomeRecord) (now : ℕ) (rand : List ℕ) (input : AmfInput)
@@ -149,19 +149,4 @@ input_comes May a home now rand (Down supi psi frame) may =
 input_comes May a home now rand (Dropped number) may =
     lost_comes May a (link_of number (started a home now rand)).supi number (put_link (unused number) (started a home now rand))
     (unused_at_start a number (started a home now rand) (at_first a home now rand))
-    (λ x e. may x (sym (ap (λ (y : List Link). (link_in number y).supi) (unchanged_stay is_same_link a.links)) ∙ e))
-
--- what was kept before stays when messages go out
-sends_before : {protection : Protection} {f g : Framed} → Sends protection f g → g.amf.before ≡ f.amf.before
-sends_before unsent = refl
-sends_before (goes number octets pass s) = sends_before s
-sends_before (counts old new of is found s) = sends_before s
-
-framed_before : (act : Act) (f : Framed) → (framed act f).amf.before ≡ f.amf.before
-unfolding framed
-framed_before (Tell out) f = refl
-framed_before (Say number protection message) f = sends_before (says_send number protection message)
-
-pub all_before : (acts : List Act) (f : Framed) → (framed_all acts f).amf.before ≡ f.amf.before
-all_before [] f = refl
-all_before (act ∷ acts) f = all_before acts (framed act f) ∙ framed_before act f
+    may

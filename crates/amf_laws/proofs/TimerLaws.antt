@@ -8,8 +8,8 @@ use Rattle.milenage.specs.Home.{HomeRecord}
 use Rattle.amf_core.specs.Commands.{authenticate, authenticated, deregister, left}
 use Rattle.amf_core.specs.Delivery.{freshened, received}
 use Rattle.amf_core.specs.Events.{carried_down, dropped, expired, fenced, fenced_of, link_lost_of, lost_for, of_supi, sessions_told, sessions_told_of}
-use Rattle.amf_core.specs.Keyed.{all_current}
-use Rattle.amf_core.specs.State.{AmfState, is_same_subscriber, subscriber_in, unused}
+use Rattle.amf_core.specs.Framing.{Framed}
+use Rattle.amf_core.specs.State.{AmfState, subscriber_in, unused}
 use Rattle.amf_core.specs.Step.{ended, finished, framed_of, started, step_of, worked}
 use Rattle.amf_core.specs.Transport.{brought_down}
 use Rattle.amf_core.specs.Work.{Work, link_of, put_link, subscriber}
@@ -23,7 +23,7 @@ use Rattle.amf_laws.proofs.Chains.{Chain, Received, found_before, kept_now}
 use Rattle.amf_laws.proofs.DeliveryRows.{MayReceive, received_chain}
 use Rattle.amf_laws.proofs.EventRows.{SettledBy, authenticated_settles, expired_settles, fenced_settles, left_settles, lost_settles, sessions_settle}
 use Rattle.amf_laws.proofs.FitLaws.{Fits, IsBegun, chain_distinct, chain_fits, fit_begins, moves_distinct, settled_fits}
-use Rattle.amf_laws.proofs.FramedFit.{Leaves, acts_leave}
+use Rattle.amf_laws.proofs.FramedFit.{Leaves, acts_distinct, acts_leave}
 use Rattle.amf_laws.proofs.Moves.{Beginning, Settled, begins, settled}
 use Rattle.amf_laws.proofs.Moves.Moves.{here}
 use Rattle.amf_laws.proofs.Records.{are_equal, found_has, is_kept}

@@ -14,11 +14,9 @@ use Rattle.amf_core.specs.Delivery.{check_of, ciphered, failed, failed_request, 
 use Rattle.amf_core.specs.Framing.{Framed, framed, framed_all, is_too_long}
 use Rattle.amf_core.specs.SecurityMode.{commanding_on}
 use Rattle.amf_core.specs.Service.{service_refused}
-use Rattle.amf_core.specs.State.{AmfState, is_same_link, is_same_subscriber, link_in}
+use Rattle.amf_core.specs.State.{AmfState, link_in}
 use Rattle.amf_core.specs.Step.{Stepped, ended, framed_of, started, worked}
 use Rattle.amf_core.specs.Work.{Work, answer, link_of, own_protection, put_link, subscriber_of_link}
-use Rattle.amf_core.specs.Changes.{home_now}
-use Rattle.amf_core.specs.Keyed.{all_current}
 use Rattle.amf_core.specs.declared.acts.Act.{Act}
 use Rattle.amf_core.specs.declared.acts.Act.TheVariants.{Say}
 use Rattle.amf_core.specs.declared.acts.Protection.{Protection}
@@ -30,8 +28,7 @@ use Rattle.nas_base.proofs.Branching.{per_holds, when_false, when_holds, when_tr
 use Rattle.amf_laws.proofs.Chains.{link_is_current}
 use Rattle.amf_laws.proofs.DeliveryRows.{sender_is_current}
 use Rattle.amf_laws.proofs.MarkLaws.{fresh_unset}
-use Rattle.amf_laws.proofs.PassedLaws.{IsAtStart, freshened_at_start, kept_at_start, something_passes}
-use Rattle.amf_laws.proofs.Records.{unchanged_stay}
+use Rattle.amf_laws.proofs.PassedLaws.{IsAtStart, freshened_at_start, something_passes}
 use Rattle.amf_laws.specs.Passing.{AreRead, FailedRequestsRejected, IsAmong, IsRejected, NothingPasses, PassNoCheck, UncheckedDoNothing, service_rejected}
 
 -- what passes nothing isn't opened
@@ -83,12 +80,12 @@ record IsUnchecked (a : AmfState) (number : ℕ) (octets : List ℕ) (w : Work) 
 link_among : {a : AmfState} {number : ℕ} {octets : List ℕ} {w : Work} → IsUnchecked a number octets w
     → (s : Subscriber) → subscriber_of_link number w ≡ Some s → IsAmong s a.subscribers
 link_among {a} {number} {octets} {w} h s e =
-    subst (λ (y : List Subscriber). IsAmong s y) (kept_at_start a w h.at_start) (link_is_current number w s e).among
+    subst (λ (y : List Subscriber). IsAmong s y) h.at_start.kept (link_is_current number w s e).among
 
 sender_among : {a : AmfState} {number : ℕ} {octets : List ℕ} {w : Work} → IsUnchecked a number octets w → (m : Option Mm)
     → (s : Subscriber) → sender number m w ≡ Some s → IsAmong s a.subscribers
 sender_among {a} {number} {octets} {w} h m s e =
-    subst (λ (y : List Subscriber). IsAmong s y) (kept_at_start a w h.at_start) (sender_is_current number m w s e).among
+    subst (λ (y : List Subscriber). IsAmong s y) h.at_start.kept (sender_is_current number m w s e).among
 
 -- header type 1
 integrity_fails : {a : AmfState} {number : ℕ} {octets : List ℕ} {w : Work} → IsUnchecked a number octets w
@@ -129,28 +126,15 @@ unchecked {a} {number} {octets} {w} h secure =
     (λ _. when_holds (λ (x : Work). x ≡ w) (header_of octets == 4) _ w
     (λ _. new_context_fails h) (λ _. refl)))))
 
--- a step that changes nothing
-nothing_ends : (a : AmfState) (home : List HomeRecord) (now : ℕ) (rand : List ℕ)
-    → ended (started a home now rand) ≡ record { amf = a; home = home; outs = [] }
-unfolding ended
-nothing_ends a home now rand =
-    rw (unchanged_stay is_same_subscriber a.subscribers, unchanged_stay is_same_link a.links) refl
-
-at_first : (a : AmfState) (home : List HomeRecord) (now : ℕ) (rand : List ℕ) (number : ℕ)
-    → link_of number (started a home now rand) ≡ link_in number a.links
-at_first a home now rand number = ap (λ (x : List Link). link_in number x) (unchanged_stay is_same_link a.links)
-
 pub unchecked_do_nothing : (a : AmfState) (home : List HomeRecord) (now : ℕ) (rand : List ℕ) (number : ℕ) (octets : List ℕ)
     → get_or octets 6 0 < 256 → UncheckedDoNothing a home now rand number octets
-unfolding worked freshened
+unfolding worked freshened ended
 unchecked_do_nothing a home now rand number octets small secure no_check =
     let begin : Work = started a home now rand in
     let still : freshened false number begin ≡ begin = when_false false _ begin refl in
     let h : IsUnchecked a number octets begin =
-    record { small = small; no_check = no_check; at_start = record { acts = refl; changes = refl; before = refl } } in
-    ap (λ (w : Work). Ok (ended (received number octets w))) still
-    ∙ ap (λ (w : Work). Ok (ended w)) (unchecked h (ap (λ (l : Link). l.secure) (at_first a home now rand number) ∙ secure))
-    ∙ ap (λ (x : Stepped). Ok x) (nothing_ends a home now rand)
+    record { small = small; no_check = no_check; at_start = record { acts = refl; kept = refl } } in
+    ap (λ (w : Work). Ok (ended (received number octets w))) still ∙ ap (λ (w : Work). Ok (ended w)) (unchecked h secure)
 
 -- a SERVICE REQUEST on a link that isn't secure
 abbrev rejecting : ℕ → Work → Work
@@ -208,16 +192,16 @@ unsecured_is_plain l unsecured =
 
 record IsAtStartOf (a : AmfState) (home : List HomeRecord) (w : Work) : Type 0 where
   at_start : IsAtStart a w
-  tmsi : w.amf.changes.tmsi ≡ a.tmsi
-  home_stays : w.amf.changes.home ≡ None
+  tmsi : w.amf.tmsi ≡ a.tmsi
+  home_stays : w.home ≡ home
 
 freshened_of : (a : AmfState) (home : List HomeRecord) (now : ℕ) (rand : List ℕ) (fresh : Bool) (number : ℕ)
     → IsAtStartOf a home (freshened fresh number (started a home now rand))
 unfolding freshened put_link
 freshened_of a home now rand fresh number =
     when_holds (λ (x : Work). IsAtStartOf a home x) fresh _ _
-    (λ _. record { at_start = record { acts = refl; changes = refl; before = refl }; tmsi = refl; home_stays = refl })
-    (λ _. record { at_start = record { acts = refl; changes = refl; before = refl }; tmsi = refl; home_stays = refl })
+    (λ _. record { at_start = record { acts = refl; kept = refl }; tmsi = refl; home_stays = refl })
+    (λ _. record { at_start = record { acts = refl; kept = refl }; tmsi = refl; home_stays = refl })
 
 -- the one message that goes out
 one_sent : (number : ℕ) (f : Framed) → f.outs ≡ [] → framed (Say number Plain service_rejected) f
@@ -238,14 +222,8 @@ rejecting_ends a home number w h unsecured =
     ap (λ (x : List Act). framed_all x f) said ∙ one_sent number f refl in
     record {
       answer = ap (λ (x : Framed). x.outs) out;
-      subscribers =
-          ap (λ (x : Framed). all_current is_same_subscriber x.amf.changes.subscribers a.subscribers) out
-          ∙ ap (λ (x : List Subscriber). all_current is_same_subscriber x a.subscribers) h.at_start.changes
-          ∙ unchanged_stay is_same_subscriber a.subscribers;
-      numbers = (
-        ap (λ (x : Framed). x.amf.changes.tmsi) out ∙ h.tmsi,
-        ap (λ (x : Framed). home_now x.amf.changes.home home) out ∙ ap (λ (x : Option (List HomeRecord)). home_now x home) h.home_stays,
-      );
+      subscribers = ap (λ (x : Framed). x.amf.subscribers) out ∙ h.at_start.kept;
+      numbers = (ap (λ (x : Framed). x.amf.tmsi) out ∙ h.tmsi, h.home_stays);
     }
 
 -- the link isn't secure where its uplink is fresh, or where it wasn't before
@@ -257,7 +235,7 @@ unsecured_either a home now rand true number either = fresh_unset number (starte
 unsecured_either a home now rand false number (inl e) = absurd (cc)
 unsecured_either a home now rand false number (inr e) =
     ap (λ (w : Work). (link_of number w).secure) (when_false false _ (started a home now rand) refl)
-    ∙ ap (λ (l : Link). l.secure) (at_first a home now rand number) ∙ e
+    ∙ e
 
 pub failed_requests_rejected : (a : AmfState) (home : List HomeRecord) (now : ℕ) (rand : List ℕ) (number : ℕ) (fresh : Bool) (octets : List ℕ)
     → get_or octets 6 0 < 256 → FailedRequestsRejected a home now rand number fresh octets

@@ -1,5 +1,5 @@
--- How many 5G-GUTIs are kept for a subscriber (TS 24.501 clause 5.5.1.2.4).
-use Rattle.std.specs.Prelude.{◌≤◌, List, length, Result, Ok, Err}
+-- Who is kept, and how many 5G-GUTIs for each (TS 24.501 clause 5.5.1.2.4).
+use Rattle.std.specs.Prelude.{◌≡◌, ◌≤◌, ℕ, List, [], ◌∷◌, length, Result, Ok, Err}
 use Rattle.nas_elements.specs.declared.guti.Guti.{Guti}
 use Rattle.amf_core.specs.State.{AmfState}
 use Rattle.amf_core.specs.Step.{Stepped}
@@ -19,3 +19,13 @@ KeepFew subscribers = (s : Subscriber) → IsAmong s subscribers → AreFew s.ke
 abbrev pub StayFew : AmfState → Result Stepped AmfRefusal → Type 0
 StayFew a (Ok new) = KeepFew a.subscribers → KeepFew new.amf.subscribers
 StayFew a (Err refusal) = Unit {0}
+
+-- the SUPIs that are kept, in the order of the configuration
+abbrev pub supis : List Subscriber → List (List ℕ)
+supis [] = []
+supis (s ∷ subscribers) = s.supi ∷ supis subscribers
+
+-- behind a step they are those before it
+abbrev pub SupisStay : AmfState → Result Stepped AmfRefusal → Type 0
+SupisStay a (Ok new) = supis new.amf.subscribers ≡ supis a.subscribers
+SupisStay a (Err refusal) = Unit {0}

@@ -1,6 +1,6 @@
-//! The 5G-GUTIs that an AMF keeps.
+//! The subscribers and the 5G-GUTIs that an AMF keeps.
 ghost use Rattle.amf_core.specs.Step.{step_of};
-ghost use Rattle.amf_laws.specs.Kept.{StayFew};
+ghost use Rattle.amf_laws.specs.Kept.{StayFew, SupisStay};
 
 use amf_core::{Amf, AmfInput};
 use milenage::Home;
@@ -15,4 +15,15 @@ pub fn kept_lists_have_two_at_most(
     input: &AmfInput,
 )
     ensures { StayFew amf.now (step_of amf.now home.now now rand.now input.now) }
+{}
+
+/// A step keeps the same subscribers, in the order of the configuration.
+pub fn same_subscribers_are_kept(
+    amf: &Amf,
+    home: &Home,
+    now: Moment,
+    rand: &[u8; 16],
+    input: &AmfInput,
+)
+    ensures { SupisStay amf.now (step_of amf.now home.now now rand.now input.now) }
 {}

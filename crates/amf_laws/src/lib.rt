@@ -6,7 +6,7 @@ mod others;
 mod passing;
 mod timers;
 
-pub use crate::kept::kept_lists_have_two_at_most;
+pub use crate::kept::{kept_lists_have_two_at_most, same_subscribers_are_kept};
 pub use crate::others::other_subscribers_stay;
 pub use crate::passing::{
     failed_service_request_changes_nothing, fresh_uplink_clears_the_mark, opened_where_passing,
