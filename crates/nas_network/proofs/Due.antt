@@ -1,11 +1,9 @@
 -- The list of timers that are due, as it is found one by one.
-use Rattle.std.proofs.Common.{◌≡◌, ℕ, zero, suc, ◌+◌, ◌-◌, ◌<◌, List, [], ◌∷◌, ◌++◌, Some, None, max, refl, sym, arith}
+use Rattle.std.proofs.Common.{◌≡◌, ℕ, zero, suc, ◌+◌, ◌-◌, ◌<◌, List, [], ◌∷◌, ◌++◌, Some, None, refl, arith}
 use Rattle.std.proofs.lemmas.Grind.{common_steps}
 use Rattle.nas_base.specs.Branches.{per}
-use Rattle.nas_network.specs.State.{NetworkState, SubscriberTimers, stopped_for}
-use Rattle.nas_network.specs.Network.{answered}
-use Rattle.nas_network.specs.Ticks.{DueTimer, due_within, first_due, names, ticked, told}
-use Rattle.nas_network.specs.declared.command.NetDelivery.{NetDelivery}
+use Rattle.nas_network.specs.State.{SubscriberTimers, stopped_for}
+use Rattle.nas_network.specs.Ticks.{DueTimer, due_list, due_within, first_due, names}
 
 none_within : (n now : ℕ) (ss : List SubscriberTimers) → first_due now ss ≡ None → due_within n now ss ≡ []
 unfolding per due_within
@@ -34,8 +32,6 @@ unfolding due_within
 due_all zero now ss list whole none all = grind (arith, common_steps)
 due_all (suc n) now ss list whole none all = absurd (omega arith)
 
--- where none is due, nothing comes of a tick but its moment
-pub nothing_due : (rand : List ℕ) (now moment : ℕ) (n : NetworkState) (d : NetDelivery) → moment ≡ max n.moment now → first_due moment n.timers ≡ None →
-    d ≡ record { sends = []; passed = None } → answered (told moment n) d ≡ ticked rand now n
-unfolding ticked
-nothing_due rand now moment n d later none nothing = rw (sym later, none_within names moment n.timers none, nothing) refl
+-- where none is due the list is empty
+pub none_due : (now : ℕ) (ss : List SubscriberTimers) → first_due now ss ≡ None → due_list now ss ≡ []
+none_due now ss none = none_within names now ss none

@@ -8,7 +8,8 @@ use Rattle.amf_core.specs.declared.config.AmfSubscriber.{AmfSubscriber}
 use Rattle.amf_laws.specs.Timers.{AreDistinct}
 use Rattle.amf_laws.specs.Timers as laws
 use Rattle.nas_network.specs.Config.{IsNetwork, NetValues, SubscriberValues, amf_of, at_amf}
-use Rattle.nas_network.specs.Owners.{HaveOwners, kept, running_for, running_of, timed}
+use Rattle.amf_laws.specs.Kept.{supis}
+use Rattle.nas_network.specs.Owners.{HaveOwners, running_for, running_of, timed}
 use Rattle.nas_network.specs.State.{first, no_timers, timers_of}
 use Rattle.nas_network.proofs.Beginnings.{subscribed_once}
 use Rattle.nas_network.proofs.Few.{first_keep}
@@ -29,7 +30,7 @@ first_distinct (s ∷ others) distinct =
     let parts = and_parts (not (has_same_supi s others)) (are_distinct others) distinct in
     (none_has s others parts.0, first_distinct others parts.1)
 
-first_same : (ss : List SubscriberValues) → timed (map no_timers ss) ≡ kept (map unknown_yet (at_amf ss))
+first_same : (ss : List SubscriberValues) → timed (map no_timers ss) ≡ supis (map unknown_yet (at_amf ss))
 first_same [] = refl
 first_same (s ∷ ss) = ap (λ (ys : List (List ℕ)). s.supi ∷ ys) (first_same ss)
 

@@ -1,5 +1,5 @@
 -- The timer of a procedure runs exactly while that procedure is open.
-use Rattle.std.proofs.Common.{◌≡◌, ◌∙◌, ap, refl, subst, sym, ℕ, Bool, true, false, List, [], ◌∷◌, None, Result, Ok, Err, IfOk, OnErr}
+use Rattle.std.proofs.Common.{◌≡◌, ◌∙◌, ap, refl, subst, sym, ℕ, Bool, true, false, List, [], ◌∷◌, None, Result, Ok, Err}
 use Rattle.std.specs.Str.{bytes_eq}
 use Rattle.nas_base.specs.Branches.{chosen}
 use Rattle.nas_timers.specs.Timers.{stopped}
@@ -9,28 +9,28 @@ use Rattle.amf_core.specs.declared.inputs.AmfInput.{AmfInput}
 use Rattle.amf_core.specs.declared.inputs.AmfInput.TheVariants as inputs
 use Rattle.amf_core.specs.declared.inputs.AmfRefusal.{AmfRefusal}
 use Rattle.amf_core.specs.declared.inputs.AmfRefusal.TheVariants as steps
-use Rattle.amf_laws.specs.Kept.{StayFew}
+use Rattle.amf_laws.specs.Kept.{StayFew, SupisStay, supis}
 use Rattle.amf_laws.specs.Timers.{AreDistinct, FitProcedures, Running, StayDistinct, TimersFit, expired_by, taken_by}
 use Rattle.amf_laws.specs.Timers as laws
 use Rattle.amf_laws.proofs.KeptLaws.{kept_lists_have_two_at_most}
+use Rattle.amf_laws.proofs.SupiLaws.{same_subscribers_are_kept}
 use Rattle.amf_laws.proofs.TimerLaws.{subscribers_stay_distinct, timers_fit_procedures}
-use Rattle.nas_network.specs.Network.{Commands, amf_command, answered, commanded, delivered, dropped, outcome}
-use Rattle.nas_network.specs.Owners.{HaveOwners, all_keep_few, kept, running_for, running_of, timed}
+use Rattle.nas_network.specs.Leading.{Lead, led}
+use Rattle.nas_network.specs.Network.{amf_command, answered, commanded, outcome}
+use Rattle.nas_network.specs.Owners.{HaveOwners, IsNoExpiry, all_keep_few, running_for, running_of, timed}
 use Rattle.nas_network.specs.State.{NetworkState, timers_of}
 use Rattle.nas_network.specs.Ticks.{DueTimer, all_fired, due_list, fired, is_due, ticked, told, without}
 use Rattle.nas_network.specs.Turns.{Turn, all_taken, begun, onto, stepped, turned}
 use Rattle.nas_network.specs.declared.command.NetCommand.{NetCommand}
 use Rattle.nas_network.specs.declared.command.NetCommand.TheVariants.{Authenticate, Deregister}
 use Rattle.nas_network.specs.declared.command.NetDelivery.{NetDelivery}
-use Rattle.nas_network.specs.declared.command.NetRefusal.{NetRefusal}
-use Rattle.nas_network.specs.declared.command.NetRefusal.TheVariants as refusals
 use Rattle.nas_network.proofs.Few.{all_keep, each_keeps_few}
 use Rattle.nas_network.proofs.Running.{all_run, all_stay, all_timed, stop_runs}
-use Rattle.nas_network.proofs.Supis.{SupisStay, is_one_of, no_record_of, no_timers_of, supis_stay, timed_stay}
+use Rattle.nas_network.proofs.Supis.{is_one_of, no_record_of, no_timers_of, timed_stay}
 
 -- what goes out of a step leaves those of the procedures that are open
 taken_fit : (x : List ℕ) (s : Stepped) (r : List ℕ → Running) (t : Turn) (there : Bool) → is_one_of x (timed t.network.timers) ≡ there
-    → timed t.network.timers ≡ kept s.amf.subscribers → (is_one_of x (timed t.network.timers) ≡ true → running_for t.network.timers x ≡ r x)
+    → timed t.network.timers ≡ supis s.amf.subscribers → (is_one_of x (timed t.network.timers) ≡ true → running_for t.network.timers x ≡ r x)
     → FitProcedures s.amf (taken_by s.outs r) → running_for (all_taken s.outs t).network.timers x ≡ laws.running_of x s.amf
 taken_fit x s r t true there same runs fit =
     all_run x s.outs t there ∙ ap (λ (q : Running). laws.all_taken x s.outs q) (runs there) ∙ fit x
@@ -53,7 +53,7 @@ lawful : (n : NetworkState) (rand : List ℕ) (input : AmfInput) (s : Stepped) �
 lawful n rand input s step = record {
   fit = subst (λ (r : Result Stepped AmfRefusal). TimersFit n.amf input r) step (timers_fit_procedures n.amf n.home n.moment rand input);
   distinct = subst (λ (r : Result Stepped AmfRefusal). StayDistinct n.amf r) step (subscribers_stay_distinct n.amf n.home n.moment rand input);
-  supis = subst (λ (r : Result Stepped AmfRefusal). SupisStay n.amf r) step (supis_stay n.amf n.home n.moment rand input);
+  supis = subst (λ (r : Result Stepped AmfRefusal). SupisStay n.amf r) step (same_subscribers_are_kept n.amf n.home n.moment rand input);
   few = subst (λ (r : Result Stepped AmfRefusal). StayFew n.amf r) step (kept_lists_have_two_at_most n.amf n.home n.moment rand input);
 }
 
@@ -68,14 +68,14 @@ onto_owned : (n : NetworkState) (input : AmfInput) (s : Stepped) (t : Turn) → 
     → HaveOwners (onto (Ok s) t).network
 onto_owned n input s t b law =
     let next : Turn = record t { network = record t.network { amf = s.amf; home = s.home } } in
-    let here : timed t.network.timers ≡ kept s.amf.subscribers = b.same ∙ b.owned.same ∙ sym law.supis in
+    let here : timed t.network.timers ≡ supis s.amf.subscribers = b.same ∙ b.owned.same ∙ sym law.supis in
     let stays : s.amf ≡ (all_taken s.outs next).network.amf = sym (all_stay s.outs next) in
     record {
       fit = λ x. taken_fit x s (expired_by input (running_for n.timers)) next (is_one_of x (timed t.network.timers)) refl here (b.runs x)
           (law.fit b.owned.distinct (running_for n.timers) b.owned.fit)
           ∙ ap (λ (a : AmfState). laws.running_of x a) stays;
       distinct = subst (λ (a : AmfState). AreDistinct a.subscribers) stays (law.distinct b.owned.distinct);
-      same = all_timed s.outs next ∙ here ∙ ap (λ (a : AmfState). kept a.subscribers) stays;
+      same = all_timed s.outs next ∙ here ∙ ap (λ (a : AmfState). supis a.subscribers) stays;
       few = subst (λ (a : AmfState). all_keep_few a.subscribers ≡ true) stays
           (all_keep s.amf.subscribers (law.few (each_keeps_few n.amf.subscribers b.owned.few)));
     }
@@ -87,9 +87,6 @@ onto_by n rand input t (Ok s) step b refused = onto_owned n input s t b (lawful 
 onto_by n rand input t (Err e) step b refused = refused e refl
 
 -- an input that isn't the expiry of a timer
-abbrev IsNoExpiry : AmfInput → Type 0
-IsNoExpiry input = (running : List ℕ → Running) (x : List ℕ) → expired_by input running x ≡ running x
-
 begins : (input : AmfInput) (t : Turn) → IsNoExpiry input → HaveOwners t.network → Begins t.network input t
 begins input t none owned = record { owned = owned; same = refl; runs = λ x _. sym (none (running_for t.network.timers) x) }
 
@@ -139,36 +136,22 @@ fired_owned : (rand : List ℕ) (moment : ℕ) (n : NetworkState) → HaveOwners
 fired_owned rand moment n owned =
     all_fired_owned rand (due_list moment n.timers) (begun (told moment n)) (told_owned moment n owned)
 
--- each event leaves it so, and where there was no memory all is as before
-unchanged_owned : (old new : NetworkState) → new ≡ old → HaveOwners old → HaveOwners new
-unchanged_owned old new is owned = subst (λ (n : NetworkState). HaveOwners n) (sym is) owned
+-- what is taken over of an event
+answer_owned : (n : NetworkState) (l : Lead) (delivery : NetDelivery) (t : Turn) → answered (led l n) delivery ≡ t → HaveOwners t.network
+    → HaveOwners (led l n)
+answer_owned n l delivery t is owned = subst (λ (u : Turn). HaveOwners u.network) (sym is) owned
 
-answer_owned : {E : Type 0} (old new : NetworkState) (result : Result NetDelivery E) (t : Turn)
-    → IfOk result (λ (delivery : NetDelivery). answered new delivery ≡ t) → OnErr result (new ≡ old) → HaveOwners t.network → HaveOwners old
-    → HaveOwners new
-answer_owned old new (Ok delivery) t is same owned before = subst (λ (u : Turn). HaveOwners u.network) (sym is) owned
-answer_owned old new (Err refusal) t is same owned before = unchanged_owned old new same before
+pub followed_once : (rand : List ℕ) (input : AmfInput) (n : NetworkState) (l : Lead) (delivery : NetDelivery) → IsNoExpiry input → HaveOwners n
+    → answered (led l n) delivery ≡ turned rand input (begun n) → HaveOwners (led l n)
+followed_once rand input n l delivery none owned is =
+    answer_owned n l delivery (turned rand input (begun n)) is (turned_owned rand input (begun n) none owned)
 
-pub delivered_owned : {E : Type 0} (rand : List ℕ) (link : ℕ) (fresh : Bool) (octets : List ℕ) (old new : NetworkState)
-    (result : Result NetDelivery E) → IfOk result (λ (delivery : NetDelivery). answered new delivery ≡ delivered rand link fresh octets old)
-    → OnErr result (new ≡ old) → HaveOwners old → HaveOwners new
-delivered_owned rand link fresh octets old new result is same owned =
-    answer_owned old new result (delivered rand link fresh octets old) is same (turned_owned rand _ (begun old) (λ _ _. refl) owned) owned
-
-pub ticked_owned : {E : Type 0} (rand : List ℕ) (now : ℕ) (old new : NetworkState) (result : Result NetDelivery E)
-    → IfOk result (λ (delivery : NetDelivery). answered new delivery ≡ ticked rand now old) → OnErr result (new ≡ old) → HaveOwners old
-    → HaveOwners new
+pub followed_tick : (rand : List ℕ) (now : ℕ) (n : NetworkState) (l : Lead) (delivery : NetDelivery) → HaveOwners n
+    → answered (led l n) delivery ≡ ticked rand now n → HaveOwners (led l n)
 unfolding ticked
-ticked_owned rand now old new result is same owned =
-    answer_owned old new result (ticked rand now old) is same (fired_owned rand _ old owned) owned
+followed_tick rand now n l delivery owned is = answer_owned n l delivery (ticked rand now n) is (fired_owned rand _ n owned)
 
-pub dropped_owned : {E : Type 0} (link : ℕ) (old new : NetworkState) (result : Result Unit E)
-    → IfOk result (λ (done : Unit). new ≡ (dropped link old).network) → OnErr result (new ≡ old) → HaveOwners old → HaveOwners new
-dropped_owned link old new (Ok done) is same owned =
-    subst (λ (n : NetworkState). HaveOwners n) (sym is) (turned_owned _ (inputs.Dropped link) (begun old) (λ _ _. refl) owned)
-dropped_owned link old new (Err refusal) is same owned = unchanged_owned old new same owned
-
--- and each command, which may be refused
+-- and of a command, which may be refused
 command_is_none : (command : NetCommand) → IsNoExpiry (amf_command command)
 command_is_none (Authenticate supi) = λ _ _. refl
 command_is_none (Deregister supi) = λ _ _. refl
@@ -184,12 +167,8 @@ outcome_owned rand input old new delivery (Err (steps.WrongState word)) step non
 outcome_owned rand input old new delivery (Err (steps.SqnSpent sqn)) step none is owned = absurd (cc is)
 outcome_owned rand input old new delivery (Err steps.Memory) step none is owned = absurd (cc is)
 
-pub commanded_owned : (rand : List ℕ) (command : NetCommand) (old new : NetworkState) (result : Result NetDelivery NetRefusal)
-    → Commands old new result (commanded rand command old) → HaveOwners old → HaveOwners new
+pub followed_command : (rand : List ℕ) (command : NetCommand) (n : NetworkState) (l : Lead) (delivery : NetDelivery) → HaveOwners n
+    → commanded rand command n ≡ Ok (answered (led l n) delivery) → HaveOwners (led l n)
 unfolding commanded
-commanded_owned rand command old new (Ok delivery) is owned =
-    outcome_owned rand (amf_command command) old new delivery (stepped rand (amf_command command) (begun old)) refl (command_is_none command) is owned
-commanded_owned rand command old new (Err refusals.Memory) is owned = unchanged_owned old new is owned
-commanded_owned rand command old new (Err refusals.UnknownSupi) is owned = unchanged_owned old new is.1 owned
-commanded_owned rand command old new (Err (refusals.WrongState word)) is owned = unchanged_owned old new is.1 owned
-commanded_owned rand command old new (Err (refusals.SqnSpent sqn)) is owned = unchanged_owned old new is.1 owned
+followed_command rand command n l delivery owned is =
+    outcome_owned rand (amf_command command) n (led l n) delivery (stepped rand (amf_command command) (begun n)) refl (command_is_none command) is owned

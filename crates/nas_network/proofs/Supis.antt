@@ -1,17 +1,12 @@
 -- Whom timers and records are kept for.
-use Rattle.std.proofs.Common.{◌≡◌, ◌∙◌, ap, ap₂, refl, ℕ, Bool, true, false, List, [], ◌∷◌, None, Some, Result, Ok, Err, if◌then◌else◌}
+use Rattle.std.proofs.Common.{◌≡◌, ap, refl, ℕ, Bool, true, false, List, [], ◌∷◌, None, Some, if◌then◌else◌}
 use Rattle.std.specs.Str.{bytes_eq}
 use Rattle.nas_timers.specs.Timers.{Running}
-use Rattle.milenage.specs.Home.{HomeRecord}
-use Rattle.amf_core.specs.Keyed.{all_current}
-use Rattle.amf_core.specs.State.{AmfState, is_same_subscriber, subscriber_in}
-use Rattle.amf_core.specs.Step.{Stepped, ended, finished, framed_of, started, step_of, worked}
-use Rattle.amf_core.specs.declared.inputs.AmfInput.{AmfInput}
-use Rattle.amf_core.specs.declared.inputs.AmfRefusal.{AmfRefusal}
+use Rattle.amf_core.specs.State.{subscriber_in}
 use Rattle.amf_core.specs.declared.subscriber.Subscriber.{Subscriber}
-use Rattle.amf_core.specs.declared.work.Work.{Work}
-use Rattle.amf_laws.proofs.Records.{are_equal, supi_stays}
-use Rattle.nas_network.specs.Owners.{kept, timed}
+use Rattle.amf_laws.proofs.Records.{are_equal}
+use Rattle.amf_laws.specs.Kept.{supis}
+use Rattle.nas_network.specs.Owners.{timed}
 use Rattle.nas_network.specs.State.{SubscriberTimers, changed_for, timers_of}
 
 abbrev pub is_one_of : List ℕ → List (List ℕ) → Bool
@@ -64,28 +59,10 @@ no_timers_of x (s ∷ ss) none = by_test (bytes_eq s.supi x) none (no_timers_of 
   by_test true h rest = absurd (cc h)
   by_test false h rest = rest h
 
-pub no_record_of : (x : List ℕ) (ss : List Subscriber) → is_one_of x (kept ss) ≡ false → subscriber_in x ss ≡ None
+pub no_record_of : (x : List ℕ) (ss : List Subscriber) → is_one_of x (supis ss) ≡ false → subscriber_in x ss ≡ None
 no_record_of x [] none = refl
 no_record_of x (s ∷ ss) none = by_test (bytes_eq s.supi x) none (no_record_of x ss) where
-  by_test : (b : Bool) → (if b then true else is_one_of x (kept ss)) ≡ false → (is_one_of x (kept ss) ≡ false → subscriber_in x ss ≡ None)
+  by_test : (b : Bool) → (if b then true else is_one_of x (supis ss)) ≡ false → (is_one_of x (supis ss) ≡ false → subscriber_in x ss ≡ None)
       → (if b then Some s else subscriber_in x ss) ≡ None
   by_test true h rest = absurd (cc h)
   by_test false h rest = rest h
-
--- a step changes no SUPI
-all_kept : (changes ss : List Subscriber) → kept (all_current is_same_subscriber changes ss) ≡ kept ss
-all_kept changes [] = refl
-all_kept changes (s ∷ ss) = ap₂ (λ (y : List ℕ) (ys : List (List ℕ)). y ∷ ys) (supi_stays changes s) (all_kept changes ss)
-
-abbrev pub SupisStay : AmfState → Result Stepped AmfRefusal → Type 0
-SupisStay a (Ok new) = kept new.amf.subscribers ≡ kept a.subscribers
-SupisStay a (Err refusal) = Unit {0}
-
-done_kept : (a : AmfState) (home : List HomeRecord) (done : Result Work AmfRefusal) → SupisStay a (finished a home done)
-unfolding ended
-done_kept a home (Ok w) = all_kept (framed_of w).amf.changes.subscribers a.subscribers
-done_kept a home (Err refusal) = tt
-
-pub supis_stay : (a : AmfState) (home : List HomeRecord) (now : ℕ) (rand : List ℕ) (input : AmfInput)
-    → SupisStay a (step_of a home now rand input)
-supis_stay a home now rand input = done_kept a home (worked input (started a home now rand))

@@ -1,4 +1,5 @@
 pub mod Config
+pub mod Leading
 pub mod Network
 pub mod Owners
 pub mod State

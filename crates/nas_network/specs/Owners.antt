@@ -4,8 +4,10 @@ use Rattle.std.specs.List.{list_all}
 use Rattle.nas_timers.specs.Timers as timers
 use Rattle.nas_timers.specs.Timers.{deadline_of}
 use Rattle.nas_timers.specs.declared.timer_id.TimerId.TheVariants.{T3522, T3550, T3560}
+use Rattle.amf_core.specs.declared.inputs.AmfInput.{AmfInput}
 use Rattle.amf_core.specs.declared.subscriber.Subscriber.{Subscriber}
-use Rattle.amf_laws.specs.Timers.{AreDistinct, FitProcedures, Running}
+use Rattle.amf_laws.specs.Kept.{supis}
+use Rattle.amf_laws.specs.Timers.{AreDistinct, FitProcedures, Running, expired_by}
 use Rattle.nas_network.specs.State.{NetworkState, SubscriberTimers, timers_of}
 
 -- those of the three that have a deadline
@@ -20,14 +22,10 @@ running_of ts = record {
 abbrev pub running_for : List SubscriberTimers → List ℕ → Running
 running_for ss supi = running_of (timers_of supi ss)
 
--- whom timers are kept for, and whom the AMF keeps
+-- whom timers are kept for
 abbrev pub timed : List SubscriberTimers → List (List ℕ)
 timed [] = []
 timed (s ∷ ss) = s.supi ∷ timed ss
-
-abbrev pub kept : List Subscriber → List (List ℕ)
-kept [] = []
-kept (s ∷ ss) = s.supi ∷ kept ss
 
 -- two 5G-GUTIs at most are kept for each subscriber (TS 24.501 clause 5.5.1.2.4)
 abbrev pub keeps_few : Subscriber → Bool
@@ -41,5 +39,9 @@ all_keep_few subscribers = list_all keeps_few subscribers
 pub record HaveOwners (n : NetworkState) : Type 0 where
   pub fit : FitProcedures n.amf (running_for n.timers)
   pub distinct : AreDistinct n.amf.subscribers
-  pub same : timed n.timers ≡ kept n.amf.subscribers
+  pub same : timed n.timers ≡ supis n.amf.subscribers
   pub few : all_keep_few n.amf.subscribers ≡ true
+
+-- an input that isn't the expiry of a timer
+abbrev pub IsNoExpiry : AmfInput → Type 0
+IsNoExpiry input = (running : List ℕ → Running) (supi : List ℕ) → expired_by input running supi ≡ running supi

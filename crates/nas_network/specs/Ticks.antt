@@ -56,15 +56,20 @@ due_list now ss = due_within names now ss
 
 -- One of them: where its deadline is still there and has come, it is stopped, and the step of its expiry is taken. An expiry before it
 -- may have stopped it, or started it anew.
+abbrev pub is_due_of : DueTimer → ℕ → List SubscriberTimers → Bool
+is_due_of d moment ss = per (deadline_for d.supi d.id ss) false (λ (at : ℕ). nat_le at moment)
+
 abbrev pub is_due : DueTimer → NetworkState → Bool
-is_due d n = per (deadline_for d.supi d.id n.timers) false (λ (at : ℕ). nat_le at n.moment)
+is_due d n = is_due_of d n.moment n.timers
 
 abbrev pub without : DueTimer → NetworkState → NetworkState
 without d n = record n { timers = stopped_for d.supi d.id n.timers }
 
+abbrev pub expired : List ℕ → DueTimer → Turn → Turn
+expired rand d t = turned rand (Expired d.supi d.id) (record t { network = without d t.network })
+
 unfoldable pub fired : List ℕ → DueTimer → Turn → Turn
-fired rand d t =
-    when is_due d t.network then turned rand (Expired d.supi d.id) (record t { network = without d t.network }) else t
+fired rand d t = when is_due d t.network then expired rand d t else t
 
 abbrev pub all_fired : List ℕ → List DueTimer → Turn → Turn
 all_fired rand [] t = t

@@ -1,11 +1,11 @@
 -- What becomes of what goes out of a step.
-use Rattle.std.specs.Prelude.{◌≡◌, ℕ, List, [], ◌∷◌, ◌++◌, Option, Some, None, Result, Ok, Err}
+use Rattle.std.specs.Prelude.{ℕ, Bool, true, false, List, [], ◌∷◌, ◌++◌, Option, Some, None, Result, Ok, Err}
 use Rattle.nas_security.specs.declared.sends.Pass.{Pass}
 use Rattle.nas_security.specs.declared.sends.Send.{Send}
 use Rattle.amf_core.specs.Step.{Stepped, step_of}
 use Rattle.amf_core.specs.declared.inputs.AmfInput.{AmfInput}
+use Rattle.amf_core.specs.declared.inputs.AmfInput.TheVariants.{Uplink, Expired, Authenticate, Deregister, Fence, Sessions, Down, Dropped}
 use Rattle.amf_core.specs.declared.inputs.AmfRefusal.{AmfRefusal}
-use Rattle.amf_core.specs.declared.inputs.AmfRefusal.TheVariants as refusals
 use Rattle.amf_core.specs.declared.outs.AmfOut.{AmfOut}
 use Rattle.amf_core.specs.declared.outs.AmfOut.TheVariants as outs
 use Rattle.nas_network.specs.State.{NetworkState, started_for, stopped_for}
@@ -28,10 +28,7 @@ abbrev pub all_taken : List AmfOut → Turn → Turn
 all_taken [] t = t
 all_taken (out ∷ outs) t = all_taken outs (taken out t)
 
--- a turn from its parts, and at its start
-abbrev pub gathered : NetworkState → List Send → Option Pass → Turn
-gathered n sends passed = record { network = n; sends = sends; passed = passed }
-
+-- a turn at its start
 abbrev pub begun : NetworkState → Turn
 begun n = record { network = n; sends = []; passed = None }
 
@@ -40,18 +37,23 @@ abbrev pub stepped : List ℕ → AmfInput → Turn → Result Stepped AmfRefusa
 stepped rand input t = step_of t.network.amf t.network.home t.network.moment rand input
 
 -- what a step came to; a refusal, which only a command gets, changes nothing
+abbrev pub reached : Stepped → Turn → Turn
+reached s t = record t { network = record t.network { amf = s.amf; home = s.home } }
+
 abbrev pub onto : Result Stepped AmfRefusal → Turn → Turn
-onto (Ok s) t = all_taken s.outs (record t { network = record t.network { amf = s.amf; home = s.home } })
+onto (Ok s) t = all_taken s.outs (reached s t)
 onto (Err refusal) t = t
 
 unfoldable pub turned : List ℕ → AmfInput → Turn → Turn
 turned rand input t = onto (stepped rand input t) t
 
--- what a step answered, and where the turn stands behind it
-abbrev pub StepsOn : Result Unit AmfRefusal → Turn → Turn → Result Stepped AmfRefusal → Type 0
-StepsOn (Ok done) old new (Ok s) = new ≡ onto (Ok s) old
-StepsOn (Ok done) old new (Err refusal) = ⊥
-StepsOn (Err refusals.Memory) old new step = new ≡ old
-StepsOn (Err refusals.UnknownSupi) old new step = (step ≡ Err refusals.UnknownSupi) × (new ≡ old)
-StepsOn (Err (refusals.WrongState word)) old new step = (step ≡ Err (refusals.WrongState word)) × (new ≡ old)
-StepsOn (Err (refusals.SqnSpent sqn)) old new step = (step ≡ Err (refusals.SqnSpent sqn)) × (new ≡ old)
+-- No refusal meets an input that is no command.
+abbrev pub is_unrefused : AmfInput → Bool
+is_unrefused (Authenticate supi) = false
+is_unrefused (Deregister supi) = false
+is_unrefused (Uplink link fresh octets) = true
+is_unrefused (Expired supi id) = true
+is_unrefused (Fence supi) = true
+is_unrefused (Sessions supi status) = true
+is_unrefused (Down supi psi frame) = true
+is_unrefused (Dropped link) = true

@@ -6,7 +6,6 @@ mod beginning;
 mod command;
 mod config;
 mod network;
-mod parts;
 mod ticks;
 mod timers;
 mod turn;
@@ -16,3 +15,4 @@ pub use crate::config::{
     NetConfig, Subscriber, Subscribers, is_for_5g, is_pool_size, is_subscriber, pool_fits,
 };
 pub use crate::network::Network;
+pub use crate::turn::NetTurn;

@@ -1,26 +1,45 @@
 //! The network.
-ghost use Rattle.std.specs.Prelude.{◌≡◌, true, IfOk, OnErr};
+ghost use Rattle.std.specs.Prelude.{◌≡◌, max, take, true, IfOk, OnErr};
 ghost use Rattle.amf_core.specs.Naming.{is_kept_for_another};
 ghost use Rattle.amf_core.specs.State.{view_in};
-ghost use Rattle.nas_network.specs.Network.{Commands, answered, commanded, delivered, dropped};
-ghost use Rattle.nas_network.specs.Owners.{all_keep_few};
+ghost use Rattle.nas_network.specs.Leading.{FollowsCommand, led};
+ghost use Rattle.nas_network.specs.Network.{Commands, answered, commanded, delivered, dropped, most_taken};
+ghost use Rattle.nas_network.specs.Owners.{HaveOwners, IsNoExpiry, all_keep_few};
 ghost use Rattle.nas_network.specs.State.{first};
 ghost use Rattle.nas_network.specs.Ticks.{ticked};
+ghost use Rattle.nas_network.specs.Turns.{begun, is_unrefused, turned};
 
-use crate::parts::NetworkParts;
+use crate::beginning::{amf_config, home_list};
+use crate::ticks::{due_list, fire_all};
+use crate::timers::{SubscriberTimers, change_all, copies, none_run};
+use crate::turn::{NetTurn, Turning};
 use crate::{NetCommand, NetConfig, NetDelivery, NetRefusal};
-use amf_core::NetView;
-use nas_base::{Memory, Moment, Supi};
+use amf_core::{Amf, AmfInput, AmfRefusal, NetView};
+use milenage::Home;
+use nas_base::{Memory, Moment, Octets, Supi};
 use nas_elements::Guti;
 use std::alloc::Global;
 use std::marker::Model;
 
+// How many octets an AMF is handed at most.
+const MOST_TAKEN: usize = 4097;
+
+// No challenge starts where a link is lost.
+const NO_RAND: [u8; 16] = [0, 0, 0, 0, 0, 0, 0, 0, 0, 0, 0, 0, 0, 0, 0, 0];
+
 /// A network: its AMF, its home network, the timers that run for each subscriber, and the moment that it was told last. For each
 /// subscriber the timer of a procedure runs exactly while that procedure is open: T3560 while a challenge is, T3550 while an acceptance
 /// is, T3522 while a de-registration by the network is (TS 24.501 clause 10.2).
+///
+/// Each event has two calls: `follow_..` prepares what comes of it on a network that stays as it is, and `take_over` takes that over
+/// without memory and without fail; `command`, `deliver`, `tick` and `drop_link` do both. None of them copies a network: an event costs
+/// the records that it changes, and walks over the subscribers and the links.
 #[derive(Drop)]
 pub struct Network {
-    parts: NetworkParts,
+    pub(crate) amf: Amf,
+    pub(crate) home: Home,
+    pub(crate) timers: Vec<SubscriberTimers>,
+    pub(crate) moment: Moment,
 }
 
 impl Model for Network {
@@ -29,9 +48,9 @@ impl Model for Network {
 
     ghost Value = { NetworkState };
 
-    ghost view = { λ n. n.parts };
+    ghost view = { λ n. record { amf = n.amf; home = n.home; timers = n.timers.items; moment = n.moment } };
 
-    ghost invariant = { λ n. HaveOwners n.parts };
+    ghost invariant = { λ n. HaveOwners (record { amf = n.amf; home = n.home; timers = n.timers.items; moment = n.moment }) };
 }
 
 impl Network {
@@ -43,9 +62,16 @@ impl Network {
     pub fn new(alloc: Global, config: &NetConfig) -> Result<Network, Memory>
         ensures { IfOk result (λ network. network ≡ first config.now) }
     {
-        let _subscribers = &config.subscribers;
-        let parts = NetworkParts::new(alloc, config)?;
-        Ok(Network { parts })
+        let subscribers = config.subscribers.as_slice();
+        let amf = Amf::new(alloc, &amf_config(alloc, config)?)?;
+        let home = Home::new(alloc, &home_list(alloc, subscribers)?)?;
+        let timers = none_run(alloc, subscribers)?;
+        Ok(Network {
+            amf,
+            home,
+            timers,
+            moment: Moment(0),
+        })
     }
 
     /// An equal network.
@@ -56,8 +82,15 @@ impl Network {
     pub fn copy(&self, alloc: Global) -> Result<Network, Memory>
         ensures { IfOk result (λ copy. copy ≡ self.now) }
     {
-        let parts = self.parts.copy(alloc)?;
-        Ok(Network { parts })
+        let amf = self.amf.copy(alloc)?;
+        let home = self.home.copy(alloc)?;
+        let timers = copies(alloc, self.timers.as_slice())?;
+        Ok(Network {
+            amf,
+            home,
+            timers,
+            moment: self.moment,
+        })
     }
 
     /// A command. A challenge that starts in it has this RAND.
@@ -74,7 +107,9 @@ impl Network {
     ) -> Result<NetDelivery, NetRefusal>
         ensures { Commands self.old self.new result (commanded rand.now command.now self.old) }
     {
-        self.parts.command(alloc, rand, command)
+        let (turn, delivery) = self.follow_command(alloc, rand, command)?;
+        self.take_over(turn);
+        Ok(delivery)
     }
 
     /// Octets came up a link, 1 to 64; `fresh` where they are the first of a connection. A challenge that starts has this RAND.
@@ -93,7 +128,9 @@ impl Network {
         ensures ok { IfOk result (λ delivery. answered self.new delivery ≡ delivered rand.now link fresh octets.now self.old) }
         ensures err { OnErr result (self.new ≡ self.old) }
     {
-        self.parts.deliver(alloc, rand, link, fresh, octets)
+        let (turn, delivery) = self.follow_delivery(alloc, rand, link, fresh, octets)?;
+        self.take_over(turn);
+        Ok(delivery)
     }
 
     /// The moment is told, and every timer that is due fires, once. A moment before the last one counts as that one. Each challenge that
@@ -111,7 +148,9 @@ impl Network {
         ensures ok { IfOk result (λ delivery. answered self.new delivery ≡ ticked rand.now now self.old) }
         ensures err { OnErr result (self.new ≡ self.old) }
     {
-        self.parts.tick(alloc, rand, now)
+        let (turn, delivery) = self.follow_tick(alloc, rand, now)?;
+        self.take_over(turn);
+        Ok(delivery)
     }
 
     /// A link is lost, 1 to 64.
@@ -123,27 +162,154 @@ impl Network {
         ensures ok { IfOk result (λ done. self.new ≡ (dropped link self.old).network) }
         ensures err { OnErr result (self.new ≡ self.old) }
     {
-        self.parts.drop_link(alloc, link)
+        let (turn, _nothing) = self.once(alloc, &NO_RAND, &AmfInput::Dropped { link })?;
+        self.take_over(turn);
+        Ok(())
+    }
+
+    /// What a command comes to, as `command` says it; the network stays as it is until it takes the turn over.
+    ///
+    /// # Errors
+    ///
+    /// Those of `command`.
+    #[tactic(auto, using(crate::proofs::Owners::followed_command), unfolding(crate::specs::Network::commanded))]
+    pub fn follow_command(
+        &self,
+        alloc: Global,
+        rand: &[u8; 16],
+        command: &NetCommand,
+    ) -> Result<(NetTurn, NetDelivery), NetRefusal>
+        ensures value { FollowsCommand self.now result (commanded rand.now command.now self.now) }
+        ensures owned { IfOk result (λ followed. HaveOwners (led followed.0 self.now)) }
+    {
+        let turning = Turning::begin(alloc, self, self.moment);
+        match turning.step(alloc, rand, &command.to_amf()) {
+            Ok(turning) => Ok(turning.end()),
+            Err(AmfRefusal::UnknownSupi) => Err(NetRefusal::UnknownSupi),
+            Err(AmfRefusal::WrongState { state }) => Err(NetRefusal::WrongState { state }),
+            Err(AmfRefusal::SqnSpent { sqn }) => Err(NetRefusal::SqnSpent { sqn }),
+            Err(AmfRefusal::Memory) => Err(NetRefusal::Memory),
+        }
+    }
+
+    /// What comes of octets, as `deliver` says it; the network stays as it is until it takes the turn over.
+    ///
+    /// # Errors
+    ///
+    /// `Memory`.
+    pub fn follow_delivery(
+        &self,
+        alloc: Global,
+        rand: &[u8; 16],
+        link: u16,
+        fresh: bool,
+        octets: &[u8],
+    ) -> Result<(NetTurn, NetDelivery), Memory>
+        ensures value { IfOk result (λ followed. answered (led followed.0 self.now) followed.1 ≡ delivered rand.now link fresh octets.now self.now) }
+        ensures owned { IfOk result (λ followed. HaveOwners (led followed.0 self.now)) }
+    {
+        let Ok(octets) = Octets::copy(alloc, most_of(octets)) else {
+            return Err(Memory);
+        };
+        let uplink = AmfInput::Uplink {
+            link,
+            fresh,
+            octets,
+        };
+        self.once(alloc, rand, &uplink)
+    }
+
+    /// What comes of a moment, as `tick` says it; the network stays as it is until it takes the turn over.
+    ///
+    /// # Errors
+    ///
+    /// `Memory`.
+    #[tactic(auto, using(crate::proofs::Owners::followed_tick), unfolding(crate::specs::Ticks::ticked))]
+    pub fn follow_tick(
+        &self,
+        alloc: Global,
+        rand: &[u8; 16],
+        now: Moment,
+    ) -> Result<(NetTurn, NetDelivery), Memory>
+        ensures value { IfOk result (λ followed. answered (led followed.0 self.now) followed.1 ≡ ticked rand.now now self.now) }
+        ensures owned { IfOk result (λ followed. HaveOwners (led followed.0 self.now)) }
+    {
+        let moment = later(self.moment, now);
+        let list = due_list(alloc, moment, self.timers.as_slice())?;
+        let turning = Turning::begin(alloc, self, moment);
+        let turning = fire_all(alloc, rand, list, turning)?;
+        Ok(turning.end())
+    }
+
+    /// Takes over what was prepared on it.
+    pub fn take_over(&mut self, turn: NetTurn)
+        requires { HaveOwners (led turn self.old) }
+        ensures { self.new ≡ led turn self.old }
+    {
+        let NetTurn {
+            changes,
+            timers,
+            moment,
+        } = turn;
+        changes.take_over(&mut self.amf, &mut self.home);
+        change_all(self.timers.as_mut_slice(), timers.as_slice());
+        self.moment = moment;
     }
 
     /// What can be seen of a subscriber, or None exactly where the SUPI is none's.
     pub fn view(&self, supi: &Supi) -> Option<NetView>
         ensures { result ≡ view_in supi.now self.now.amf }
     {
-        self.parts.view(supi)
+        self.amf.view(supi)
     }
 
     /// A law of every network: two 5G-GUTIs at most are kept for each subscriber (TS 24.501 clause 5.5.1.2.4). It does nothing.
     pub fn keeps_few(&self)
         ensures { all_keep_few self.now.amf.subscribers ≡ true }
     {
-        let _parts = &self.parts;
+        let _amf = &self.amf;
     }
 
     /// Whether a 5G-GUTI is kept for another subscriber than the one of this SUPI. It walks over all records.
     pub fn keeps_for_another(&self, supi: &Supi, guti: &Guti) -> bool
         ensures { result ≡ is_kept_for_another supi.now guti.now self.now.amf.subscribers }
     {
-        self.parts.keeps_for_another(supi, guti)
+        self.amf.keeps_for_another(supi, guti)
     }
+
+    // The turn of one step that no refusal meets.
+    #[tactic(auto, using(crate::proofs::Owners::followed_once))]
+    fn once(
+        &self,
+        alloc: Global,
+        rand: &[u8; 16],
+        input: &AmfInput,
+    ) -> Result<(NetTurn, NetDelivery), Memory>
+        requires no_command { is_unrefused input.now ≡ true }
+        requires no_expiry { IsNoExpiry input.now }
+        ensures value { IfOk result (λ followed. answered (led followed.0 self.now) followed.1 ≡ turned rand.now input.now (begun self.now)) }
+        ensures owned { IfOk result (λ followed. HaveOwners (led followed.0 self.now)) }
+    {
+        let turning = Turning::begin(alloc, self, self.moment);
+        let turning = turning.unrefused(alloc, rand, input)?;
+        Ok(turning.end())
+    }
+}
+
+// As many of the octets as an AMF is handed.
+fn most_of(octets: &[u8]) -> &[u8]
+    ensures { result.now ≡ take most_taken octets.now }
+{
+    if octets.len() <= MOST_TAKEN {
+        return octets;
+    }
+    let (most, _) = octets.split_at(MOST_TAKEN);
+    most
+}
+
+// The later of two moments.
+fn later(one: Moment, other: Moment) -> Moment
+    ensures { result ≡ max one other }
+{
+    one.max(other)
 }

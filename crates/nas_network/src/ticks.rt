@@ -1,13 +1,11 @@
 //! The timers that are due at a moment.
-ghost use Rattle.std.specs.Prelude.{◌≡◌, Some, IfOk, OnOk};
+ghost use Rattle.std.specs.Prelude.{◌≡◌, Some, IfOk};
 ghost use Rattle.nas_network.specs.State.{stopped_for};
-ghost use Rattle.nas_network.specs.Ticks.{all_fired, due_for, due_list, due_named, fired, first_due, found_with, is_due, is_sooner, sooner_of};
-ghost use Rattle.nas_network.specs.Turns.{gathered};
+ghost use Rattle.nas_network.specs.Ticks.{all_fired, due_for, due_list, due_named, expired, fired, first_due, found_with, is_due_of, is_sooner, sooner_of};
 
-use crate::parts::NetworkParts;
-use crate::timers::{SubscriberTimers, copies, deadline_for, stop_for};
-use crate::turn::Gained;
-use amf_core::AmfInput;
+use crate::timers::{SubscriberTimers, TimerChange, copies, deadline_for, stop_for, take_timers};
+use crate::turn::Turning;
+use amf_core::{AmfInput, AmfRefusal};
 use nas_base::{Memory, Moment, Supi};
 use nas_timers::{NAMES, TimerId};
 use std::alloc::Global;
@@ -103,6 +101,7 @@ pub fn first_due(now: Moment, timers: &[SubscriberTimers]) -> Option<DueTimer>
 }
 
 /// The timers that are due at a moment, by deadline, then by name, then by the subscriber's place.
+#[tactic(auto, using(crate::proofs::Due::none_due))]
 pub fn due_list(
     alloc: Global,
     now: Moment,
@@ -110,7 +109,21 @@ pub fn due_list(
 ) -> Result<Vec<DueTimer>, Memory>
     ensures { IfOk result (λ list. list.items ≡ due_list now timers.now) }
 {
-    let mut left = copies(alloc, timers)?;
+    match first_due(now, timers) {
+        Some(_) => due_of(alloc, now, copies(alloc, timers)?),
+        None => Ok(Vec::new(alloc)),
+    }
+}
+
+// The same of timers that are its own.
+fn due_of(
+    alloc: Global,
+    now: Moment,
+    timers: Vec<SubscriberTimers>,
+) -> Result<Vec<DueTimer>, Memory>
+    ensures { IfOk result (λ list. list.items ≡ due_list now timers.items) }
+{
+    let mut left = timers;
     let mut list = Vec::new(alloc);
     for _ in 0..MOST {
         let Some(due) = first_due(now, left.as_slice()) else {
@@ -124,52 +137,102 @@ pub fn due_list(
     Ok(list)
 }
 
-impl NetworkParts {
-    /// Timers that were due, one after the other.
-    pub(crate) fn fire_all(
-        &mut self,
-        alloc: Global,
-        rand: &[u8; 16],
-        gained: &mut Gained,
-        list: Vec<DueTimer>,
-    ) -> Result<(), Memory>
-        ensures { OnOk result (gathered self.new gained.new.sends.items gained.new.passed ≡ all_fired rand.now list.items (gathered self.old gained.old.sends.items gained.old.passed)) }
+/// Timers that were due fire, one after the other. Where none was, nothing is copied.
+pub fn fire_all<'a>(
+    alloc: Global,
+    rand: &[u8; 16],
+    list: Vec<DueTimer>,
+    turning: Turning<'a>,
+) -> Result<Turning<'a>, Memory>
+    ensures turn { IfOk result (λ fired. fired.turn ≡ all_fired rand.now list.items turning.entry.turn) }
+    ensures before { IfOk result (λ fired. fired.before ≡ turning.entry.before) }
+{
+    if list.is_empty() {
+        return Ok(turning);
+    }
+    let mut firing = Firing::begin(alloc, turning)?;
+    for due in list {
+        firing = firing.fire(alloc, rand, due)?;
+    }
+    Ok(firing.turning)
+}
+
+// A turn in which timers fire, and the timers as they are by now.
+#[derive(Drop)]
+struct Firing<'a> {
+    turning: Turning<'a>,
+    timers: Vec<SubscriberTimers>,
+}
+
+impl<'a> Model for Firing<'a> {
+    ghost use Rattle.std.specs.Prelude.{◌≡◌};
+    ghost use Rattle.nas_network.specs.Leading.{TurningState};
+
+    ghost Value = { TurningState };
+
+    ghost view = { λ f. f.turning };
+
+    ghost invariant = { λ f. f.timers.items ≡ f.turning.turn.network.timers };
+}
+
+impl<'a> Firing<'a> {
+    // None fired yet.
+    fn begin(alloc: Global, turning: Turning<'a>) -> Result<Firing<'a>, Memory>
+        ensures { IfOk result (λ firing. firing ≡ turning.entry) }
     {
-        for due in list {
-            self.fire(alloc, rand, gained, due)?;
-        }
-        Ok(())
+        let timers = turning.timers_by_now(alloc)?;
+        Ok(Firing { turning, timers })
     }
 
     // A timer that was due when the tick began.
     #[tactic(auto, unfolding(crate::specs::Ticks::fired, nas_base::specs::Branches::chosen))]
-    fn fire(
-        &mut self,
-        alloc: Global,
-        rand: &[u8; 16],
-        gained: &mut Gained,
-        due: DueTimer,
-    ) -> Result<(), Memory>
-        ensures { OnOk result (gathered self.new gained.new.sends.items gained.new.passed ≡ fired rand.now due (gathered self.old gained.old.sends.items gained.old.passed)) }
+    fn fire(self, alloc: Global, rand: &[u8; 16], due: DueTimer) -> Result<Firing<'a>, Memory>
+        ensures turn { IfOk result (λ firing. firing.turn ≡ fired rand.now due self.entry.turn) }
+        ensures before { IfOk result (λ firing. firing.before ≡ self.entry.before) }
     {
-        if !self.is_due(&due) {
-            return Ok(());
+        if !due.is_due(self.turning.moment(), self.timers.as_slice()) {
+            return Ok(self);
         }
-        stop_for(self.timers.as_mut_slice(), &due.supi, same(&due.id));
-        let expired = AmfInput::Expired {
-            supi: due.supi,
-            id: due.id,
-        };
-        self.turn(alloc, rand, gained, &expired)
+        self.expire(alloc, rand, due)
     }
 
+    // It is stopped, and the step of its expiry is taken.
+    #[tactic(auto, using(crate::proofs::Leading::never_refused, crate::proofs::Leading::taken_timers), unfolding(crate::specs::Turns::turned))]
+    fn expire(self, alloc: Global, rand: &[u8; 16], due: DueTimer) -> Result<Firing<'a>, Memory>
+        ensures turn { IfOk result (λ firing. firing.turn ≡ expired rand.now due self.entry.turn) }
+        ensures before { IfOk result (λ firing. firing.before ≡ self.entry.before) }
+    {
+        let Firing { turning, timers } = self;
+        let mut turning = turning;
+        let mut timers = timers;
+        let DueTimer { supi, id, at: _ } = due;
+        stop_for(timers.as_mut_slice(), &supi, id);
+        turning.change(TimerChange::Stop {
+            supi: supi.copy(),
+            id,
+        })?;
+        let expired = AmfInput::Expired { supi, id };
+        match turning.reach(alloc, rand, &expired) {
+            Ok((turning, outs)) => {
+                let mut turning = turning;
+                take_timers(timers.as_mut_slice(), outs.items.as_slice());
+                turning.take_all(alloc, outs)?;
+                Ok(Firing { turning, timers })
+            }
+            Err(AmfRefusal::Memory) => Err(Memory),
+            Err(_) => unreachable!(),
+        }
+    }
+}
+
+impl DueTimer {
     // Whether the deadline of a timer is still there and has come.
     #[tactic(auto, unfolding(nas_base::specs::Branches::per))]
-    fn is_due(&self, due: &DueTimer) -> bool
-        ensures { result ≡ is_due due.now self.now }
+    fn is_due(&self, moment: Moment, timers: &[SubscriberTimers]) -> bool
+        ensures { result ≡ is_due_of self.now moment timers.now }
     {
-        match deadline_for(self.timers.as_slice(), &due.supi, same(&due.id)) {
-            Some(at) => at <= self.moment,
+        match deadline_for(timers, &self.supi, same(&self.id)) {
+            Some(at) => at <= moment,
             None => false,
         }
     }

@@ -1,8 +1,10 @@
 //! The timers of the subscribers.
 ghost use Rattle.std.specs.Prelude.{◌≡◌, map, IfOk};
+ghost use Rattle.nas_network.specs.Leading.{timers_after, timers_taken};
 ghost use Rattle.nas_network.specs.State.{deadline_for, no_timers, started_for, stopped_for};
 
 use crate::Subscriber;
+use amf_core::AmfOut;
 use nas_base::{Memory, Moment, Supi};
 use nas_timers::{TimerId, Timers};
 use std::alloc::Global;
@@ -41,6 +43,38 @@ impl SubscriberTimers {
         SubscriberTimers {
             supi: subscriber.supi.copy(),
             timers: Timers::new(),
+        }
+    }
+}
+
+/// A timer of a subscriber that starts, or stops.
+#[derive(Drop)]
+pub enum TimerChange {
+    Start { supi: Supi, id: TimerId, at: Moment },
+    Stop { supi: Supi, id: TimerId },
+}
+
+/// Timers start and stop, one after the other. It takes no memory.
+pub fn change_all(timers: &mut [SubscriberTimers], changes: &[TimerChange])
+    ensures { timers.new ≡ timers_after changes.now timers.old }
+{
+    for change in changes {
+        match change {
+            TimerChange::Start { supi, id, at } => start_for(timers, supi, *id, *at),
+            TimerChange::Stop { supi, id } => stop_for(timers, supi, *id),
+        }
+    }
+}
+
+/// What goes out of a step starts and stops timers.
+pub fn take_timers(timers: &mut [SubscriberTimers], outs: &[AmfOut])
+    ensures { timers.new ≡ timers_taken outs.now timers.old }
+{
+    for out in outs {
+        match out {
+            AmfOut::Start { supi, id, at } => start_for(timers, supi, *id, *at),
+            AmfOut::Stop { supi, id } => stop_for(timers, supi, *id),
+            AmfOut::Send(_) | AmfOut::Passed(_) | AmfOut::Smf(_) => {}
         }
     }
 }

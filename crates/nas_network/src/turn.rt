@@ -1,110 +1,204 @@
 //! A network while it takes its steps.
-ghost use Rattle.std.specs.Prelude.{◌≡◌, ◌≤◌, ◌<◌, ◌+◌, [], None, length, OnOk, OnErr};
-ghost use Rattle.std.specs.Vec.{vec_capacity, vec_len};
-ghost use Rattle.nas_network.specs.Turns.{StepsOn, all_taken, gathered, stepped, taken, turned};
+ghost use Rattle.std.specs.Prelude.{◌≡◌, true, IfOk, OnOk};
+ghost use Rattle.nas_network.specs.Leading.{Reaches, StepsOn, changed_by, led};
+ghost use Rattle.nas_network.specs.Network.{answered};
+ghost use Rattle.nas_network.specs.Ticks.{told};
+ghost use Rattle.nas_network.specs.Turns.{all_taken, begun, is_unrefused, stepped, taken, turned};
 
-use crate::NetDelivery;
-use crate::parts::NetworkParts;
-use crate::timers::{start_for, stop_for};
-use amf_core::{AmfInput, AmfOut, AmfOuts, AmfRefusal, follow};
-use nas_base::Memory;
-use nas_security::{Pass, Send, Sends};
+use crate::timers::{SubscriberTimers, TimerChange, change_all, copies};
+use crate::{NetDelivery, Network};
+use amf_core::{AmfInput, AmfOut, AmfOuts, AmfRefusal, Changes, Draft, follow};
+use nas_base::{Memory, Moment};
+use nas_security::{Pass, Sends};
 use std::alloc::Global;
+use std::marker::Model;
 
-/// What came of steps so far: the messages that were sent, and the check that was passed.
+/// What a turn changed of a network, which is not taken over yet: the AMF's records and the home network, the timers, and the moment.
 #[derive(Drop)]
-pub struct Gained {
-    pub sends: Vec<Send>,
-    pub passed: Option<Pass>,
+pub struct NetTurn {
+    pub(crate) changes: Changes,
+    pub(crate) timers: Vec<TimerChange>,
+    pub(crate) moment: Moment,
 }
 
-impl Gained {
-    /// Nothing.
-    pub fn new(alloc: Global) -> Gained
-        ensures sends { result.sends.items ≡ [] }
-        ensures passed { result.passed ≡ None }
+impl Model for NetTurn {
+    ghost use Rattle.nas_network.specs.Leading.{Lead};
+
+    ghost Value = { Lead };
+
+    ghost view = { λ t. record { changes = t.changes; timers = t.timers.items; moment = t.moment } };
+}
+
+/// A network while it takes its steps, which itself stays as it is: the AMF and the home network as they are by now, the timers that it
+/// began with and what started and stopped since, the moment, and what came of the steps so far.
+#[derive(Drop)]
+pub struct Turning<'a> {
+    core: Draft<'a>,
+    kept: &'a [SubscriberTimers],
+    timers: Vec<TimerChange>,
+    moment: Moment,
+    sends: Sends,
+    passed: Option<Pass>,
+}
+
+impl<'a> Model for Turning<'a> {
+    ghost use Rattle.nas_network.specs.Leading.{TurningState, timers_after};
+
+    ghost Value = { TurningState };
+
+    ghost view = { λ t. record { turn = record { network = record { amf = t.core.amf; home = t.core.home; timers = timers_after t.timers.items t.kept.now; moment = t.moment }; sends = t.sends; passed = t.passed }; before = record { amf = t.core.before.amf; home = t.core.before.home; timers = t.kept.now; moment = t.moment } } };
+}
+
+impl<'a> Turning<'a> {
+    /// A turn at its start, at a moment.
+    pub fn begin(alloc: Global, network: &'a Network, moment: Moment) -> Turning<'a>
+        ensures { result ≡ record { turn = begun (told moment network.now); before = told moment network.now } }
     {
-        Gained {
-            sends: Vec::new(alloc),
+        Turning {
+            core: Draft::new(alloc, &network.amf, &network.home),
+            kept: network.timers.as_slice(),
+            timers: Vec::new(alloc),
+            moment,
+            sends: Sends::new(alloc),
             passed: None,
         }
     }
 
-    /// As it is answered.
-    pub fn delivery(self) -> NetDelivery
-        ensures { result ≡ record { sends = self.sends.items; passed = self.passed } }
+    /// The moment of its steps.
+    pub fn moment(&self) -> Moment
+        ensures { result ≡ self.now.turn.network.moment }
     {
-        NetDelivery {
-            sends: Sends { items: self.sends },
+        self.moment
+    }
+
+    /// The timers as they are by now.
+    ///
+    /// # Errors
+    ///
+    /// `Memory`.
+    pub fn timers_by_now(&self, alloc: Global) -> Result<Vec<SubscriberTimers>, Memory>
+        ensures { IfOk result (λ timers. timers.items ≡ self.now.turn.network.timers) }
+    {
+        let mut timers = copies(alloc, self.kept)?;
+        change_all(timers.as_mut_slice(), self.timers.as_slice());
+        Ok(timers)
+    }
+
+    /// What it changed, and what came of it.
+    pub fn end(self) -> (NetTurn, NetDelivery)
+        ensures { answered (led result.0 self.entry.before) result.1 ≡ self.entry.turn }
+    {
+        let turn = NetTurn {
+            changes: self.core.changes(),
+            timers: self.timers,
+            moment: self.moment,
+        };
+        let delivery = NetDelivery {
+            sends: self.sends,
             passed: self.passed,
-        }
+        };
+        (turn, delivery)
     }
-}
 
-impl NetworkParts {
     /// The step of an input that no refusal meets.
-    #[tactic(auto, unfolding(crate::specs::Turns::turned))]
-    pub(crate) fn turn(
-        &mut self,
+    #[tactic(auto, using(crate::proofs::Leading::never_refused), unfolding(crate::specs::Turns::turned))]
+    pub fn unrefused(
+        self,
         alloc: Global,
         rand: &[u8; 16],
-        gained: &mut Gained,
         input: &AmfInput,
-    ) -> Result<(), Memory>
-        ensures ok { OnOk result (gathered self.new gained.new.sends.items gained.new.passed ≡ turned rand.now input.now (gathered self.old gained.old.sends.items gained.old.passed)) }
-        ensures err { OnErr result (gathered self.new gained.new.sends.items gained.new.passed ≡ gathered self.old gained.old.sends.items gained.old.passed) }
+    ) -> Result<Turning<'a>, Memory>
+        requires { is_unrefused input.now ≡ true }
+        ensures turn { IfOk result (λ turning. turning.turn ≡ turned rand.now input.now self.entry.turn) }
+        ensures before { IfOk result (λ turning. turning.before ≡ self.entry.before) }
     {
-        match self.step(alloc, rand, gained, input) {
-            Ok(()) => Ok(()),
+        match self.step(alloc, rand, input) {
+            Ok(turning) => Ok(turning),
             Err(AmfRefusal::Memory) => Err(Memory),
-            Err(_) => Ok(()),
+            Err(_) => unreachable!(),
         }
     }
 
-    /// The step of an input. There is room for what goes out before anything is changed.
-    pub(crate) fn step(
-        &mut self,
+    /// The step of an input.
+    pub fn step(
+        self,
         alloc: Global,
         rand: &[u8; 16],
-        gained: &mut Gained,
         input: &AmfInput,
-    ) -> Result<(), AmfRefusal>
-        ensures { StepsOn result (gathered self.old gained.old.sends.items gained.old.passed) (gathered self.new gained.new.sends.items gained.new.passed) (stepped rand.now input.now (gathered self.old gained.old.sends.items gained.old.passed)) }
+    ) -> Result<Turning<'a>, AmfRefusal>
+        ensures { StepsOn self.entry result (stepped rand.now input.now self.entry.turn) }
     {
-        let done = follow(alloc, &self.amf, &self.home, self.moment, rand, input)?;
-        if gained.sends.reserve(done.outs.items.len()).is_err() {
-            return Err(AmfRefusal::Memory);
+        let (turning, outs) = self.reach(alloc, rand, input)?;
+        let mut turning = turning;
+        match turning.take_all(alloc, outs) {
+            Ok(()) => Ok(turning),
+            Err(Memory) => Err(AmfRefusal::Memory),
         }
-        let outs = done.take_over(&mut self.amf, &mut self.home);
-        self.take_all(gained, outs);
+    }
+
+    /// The step of an input, but for what goes out of it.
+    pub fn reach(
+        self,
+        alloc: Global,
+        rand: &[u8; 16],
+        input: &AmfInput,
+    ) -> Result<(Turning<'a>, AmfOuts), AmfRefusal>
+        ensures { Reaches self.entry result (stepped rand.now input.now self.entry.turn) }
+    {
+        let Turning {
+            core,
+            kept,
+            timers,
+            moment,
+            sends,
+            passed,
+        } = self;
+        let (core, outs) = follow(alloc, core, moment, rand, input)?;
+        let turning = Turning {
+            core,
+            kept,
+            timers,
+            moment,
+            sends,
+            passed,
+        };
+        Ok((turning, outs))
+    }
+
+    /// What goes out of a step, one after the other.
+    pub fn take_all(&mut self, alloc: Global, outs: AmfOuts) -> Result<(), Memory>
+        ensures { OnOk result (self.new ≡ record self.old { turn = all_taken outs self.old.turn }) }
+    {
+        for out in outs.items {
+            self.take(alloc, out)?;
+        }
         Ok(())
     }
 
-    // What goes out of a step, one after the other.
-    fn take_all(&mut self, gained: &mut Gained, outs: AmfOuts)
-        requires { vec_len gained.old.sends + length outs ≤ vec_capacity gained.old.sends }
-        ensures { gathered self.new gained.new.sends.items gained.new.passed ≡ all_taken outs (gathered self.old gained.old.sends.items gained.old.passed) }
+    // One thing that goes out of a step.
+    fn take(&mut self, alloc: Global, out: AmfOut) -> Result<(), Memory>
+        ensures { OnOk result (self.new ≡ record self.old { turn = taken out self.old.turn }) }
     {
-        for out in outs.items {
-            self.take(gained, out);
+        match out {
+            AmfOut::Send(send) => self.sends.push(alloc, send),
+            AmfOut::Passed(pass) => {
+                self.passed = Some(pass);
+                Ok(())
+            }
+            AmfOut::Smf(_) => Ok(()),
+            AmfOut::Start { supi, id, at } => self.change(TimerChange::Start { supi, id, at }),
+            AmfOut::Stop { supi, id } => self.change(TimerChange::Stop { supi, id }),
         }
     }
 
-    // One thing that goes out of a step.
-    fn take(&mut self, gained: &mut Gained, out: AmfOut)
-        requires { vec_len gained.old.sends < vec_capacity gained.old.sends }
-        ensures turn { gathered self.new gained.new.sends.items gained.new.passed ≡ taken out (gathered self.old gained.old.sends.items gained.old.passed) }
-        ensures one { vec_len gained.new.sends ≤ vec_len gained.old.sends + 1 }
-        ensures room { vec_capacity gained.new.sends ≡ vec_capacity gained.old.sends }
+    /// A timer starts or stops.
+    #[tactic(auto, using(crate::proofs::Leading::changed_last))]
+    pub fn change(&mut self, change: TimerChange) -> Result<(), Memory>
+        ensures { OnOk result (self.new ≡ record self.old { turn = changed_by change self.old.turn }) }
     {
-        match out {
-            AmfOut::Send(send) => gained.sends.push_reserved(send),
-            AmfOut::Passed(pass) => gained.passed = Some(pass),
-            AmfOut::Smf(_) => {}
-            AmfOut::Start { supi, id, at } => {
-                start_for(self.timers.as_mut_slice(), &supi, id, at);
-            }
-            AmfOut::Stop { supi, id } => stop_for(self.timers.as_mut_slice(), &supi, id),
+        match self.timers.push(change) {
+            Ok(()) => Ok(()),
+            Err(_) => Err(Memory),
         }
     }
 }
