@@ -13,6 +13,7 @@ use Rattle.nas_handset.specs.declared.command.CommandRefusal.{CommandRefusal}
 use Rattle.nas_handset.specs.declared.command.CommandRefusal.TheVariants.{WrongState, Spent, Memory}
 use Rattle.nas_handset.specs.declared.command.UeCommand.{UeCommand}
 use Rattle.nas_handset.specs.declared.command.UeCommand.TheVariants.{Register, Service, Deregister}
+use Rattle.nas_handset.specs.declared.handset.Delivery.{Delivery}
 
 -- a command to the handset, as one to its mobility management
 abbrev pub mm_command : UeCommand → MmCommand
@@ -39,6 +40,18 @@ dropped h = turned Dropped (begun h)
 
 abbrev pub restarted : HandsetState → Turn
 restarted h = turned Restart (begun h)
+
+-- what a turn came to: the handset behind it, and what came of it
+abbrev pub ended : HandsetState → Delivery → Turn
+ended h d = record { handset = h; sends = d.sends; passed = d.passed; took = d.took }
+
+-- what a command comes to
+abbrev pub FollowsCommand : Result (HandsetState × List Send) CommandRefusal → Result Turn CommandRefusal → Type 0
+FollowsCommand (Ok (new, sends)) (Ok t) = (new ≡ t.handset) × (sends ≡ t.sends)
+FollowsCommand (Ok followed) (Err refusal) = ⊥
+FollowsCommand (Err Memory) row = Unit {0}
+FollowsCommand (Err (WrongState word)) row = row ≡ Err (WrongState word)
+FollowsCommand (Err (Spent next)) row = row ≡ Err (Spent next)
 
 -- what a command answered, and the handset behind it
 abbrev pub Commands : HandsetState → HandsetState → Result (List Send) CommandRefusal → Result Turn CommandRefusal → Type 0

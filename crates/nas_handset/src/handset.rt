@@ -1,6 +1,6 @@
 //! The handset.
 ghost use Rattle.std.specs.Prelude.{◌≡◌, [], None, IfOk, OnErr};
-ghost use Rattle.nas_handset.specs.Handset.{Commands, StepsFirst, commanded, delivered, dropped, restarted};
+ghost use Rattle.nas_handset.specs.Handset.{Commands, FollowsCommand, StepsFirst, commanded, delivered, dropped, ended, restarted};
 ghost use Rattle.nas_handset.specs.Owners.{HaveOwners, IsNoExpiry};
 ghost use Rattle.nas_handset.specs.State.{first};
 ghost use Rattle.nas_handset.specs.Ticks.{at_moment, ticked};
@@ -20,6 +20,9 @@ use ue_mm::{HandsetConfig, StepRefusal, UeInput, UeMm, UeView, follow};
 
 /// A handset: its 5GMM, the timers that run, and the moment that it was told last. The timer of a procedure runs exactly while that
 /// procedure is open.
+///
+/// An event has two calls: `follow_..` answers what the handset is behind it, beside the handset as it is, and `command`, `deliver` and
+/// `tick` become that.
 #[derive(Drop)]
 pub struct Handset {
     pub(crate) mm: UeMm,
@@ -88,16 +91,12 @@ impl Handset {
     ///
     /// `WrongState` exactly where the command doesn't begin in this state; else `Spent` exactly where the current context has no
     /// count up left. Or `Memory`. All is then as before.
-    #[tactic(auto, unfolding(crate::specs::Handset::commanded))]
     pub fn command(&mut self, alloc: Global, command: &UeCommand) -> Result<Sends, CommandRefusal>
         ensures { Commands self.old self.new result (commanded command.now self.old) }
     {
-        match self.first_step(alloc, UeInput::Command(command.to_mm())) {
-            Ok(turn) => Ok(self.take_over(turn).sends),
-            Err(StepRefusal::WrongState { state }) => Err(CommandRefusal::WrongState { state }),
-            Err(StepRefusal::Spent { next }) => Err(CommandRefusal::Spent { next }),
-            Err(StepRefusal::Memory) => Err(CommandRefusal::Memory),
-        }
+        let (next, sends) = self.follow_command(alloc, command)?;
+        *self = next;
+        Ok(sends)
     }
 
     /// Octets reached the handset.
@@ -106,16 +105,12 @@ impl Handset {
     ///
     /// `Memory`; all is then as before.
     pub fn deliver(&mut self, alloc: Global, octets: &[u8]) -> Result<Delivery, Memory>
-        ensures ok { IfOk result (λ delivery. delivered octets.now self.old ≡ record { handset = self.new; sends = delivery.sends; passed = delivery.passed; took = delivery.took }) }
+        ensures ok { IfOk result (λ delivery. delivered octets.now self.old ≡ ended self.new delivery) }
         ensures err { OnErr result (self.new ≡ self.old) }
     {
-        let octets = match Octets::copy(alloc, octets) {
-            Ok(octets) => octets,
-            Err(OctetsRefusal::TooMany { size: _ }) => return Ok(Delivery::nothing(alloc)),
-            Err(OctetsRefusal::Memory) => return Err(Memory),
-        };
-        let turn = self.unrefused(alloc, UeInput::Delivered(octets))?;
-        Ok(self.take_over(turn))
+        let (next, delivery) = self.follow_delivery(alloc, octets)?;
+        *self = next;
+        Ok(delivery)
     }
 
     /// The moment is told, and every timer that is due fires, once. A moment before the last one counts as that one.
@@ -123,16 +118,13 @@ impl Handset {
     /// # Errors
     ///
     /// `Memory`; all is then as before.
-    #[tactic(auto, unfolding(crate::specs::Ticks::ticked))]
     pub fn tick(&mut self, alloc: Global, now: Moment) -> Result<Sends, Memory>
         ensures ok { IfOk result (λ sends. (self.new ≡ (ticked now self.old).handset) × (sends ≡ (ticked now self.old).sends)) }
         ensures err { OnErr result (self.new ≡ self.old) }
     {
-        let handset = self.copy(alloc)?.at_moment(now);
-        let list = due_list(alloc, handset.moment, &handset.timers)?;
-        let mut turn = Turn::begin(alloc, handset);
-        turn.fire_all(alloc, list)?;
-        Ok(self.take_over(turn).sends)
+        let (next, sends) = self.follow_tick(alloc, now)?;
+        *self = next;
+        Ok(sends)
     }
 
     /// The connection is lost.
@@ -144,8 +136,8 @@ impl Handset {
         ensures ok { IfOk result (λ done. self.new ≡ (dropped self.old).handset) }
         ensures err { OnErr result (self.new ≡ self.old) }
     {
-        let turn = self.unrefused(alloc, UeInput::Dropped)?;
-        let _nothing = self.take_over(turn);
+        let (next, _nothing) = self.followed(alloc, UeInput::Dropped)?;
+        *self = next;
         Ok(())
     }
 
@@ -158,9 +150,73 @@ impl Handset {
         ensures ok { IfOk result (λ done. self.new ≡ (restarted self.old).handset) }
         ensures err { OnErr result (self.new ≡ self.old) }
     {
-        let turn = self.unrefused(alloc, UeInput::Restart)?;
-        let _nothing = self.take_over(turn);
+        let (next, _nothing) = self.followed(alloc, UeInput::Restart)?;
+        *self = next;
         Ok(())
+    }
+
+    /// What the handset is after a command, and what it sends, as `command` says it. It itself stays as it is until it becomes that.
+    ///
+    /// # Errors
+    ///
+    /// Those of `command`.
+    #[tactic(auto, unfolding(crate::specs::Handset::commanded))]
+    pub fn follow_command(
+        &self,
+        alloc: Global,
+        command: &UeCommand,
+    ) -> Result<(Handset, Sends), CommandRefusal>
+        ensures { FollowsCommand result (commanded command.now self.now) }
+    {
+        match self.first_step(alloc, UeInput::Command(command.to_mm())) {
+            Ok(turn) => {
+                let (next, delivery) = turn.end();
+                Ok((next, delivery.sends))
+            }
+            Err(StepRefusal::WrongState { state }) => Err(CommandRefusal::WrongState { state }),
+            Err(StepRefusal::Spent { next }) => Err(CommandRefusal::Spent { next }),
+            Err(StepRefusal::Memory) => Err(CommandRefusal::Memory),
+        }
+    }
+
+    /// What the handset is after octets reached it, and what comes of them, as `deliver` says it. It itself stays as it is until it
+    /// becomes that.
+    ///
+    /// # Errors
+    ///
+    /// `Memory`.
+    pub fn follow_delivery(
+        &self,
+        alloc: Global,
+        octets: &[u8],
+    ) -> Result<(Handset, Delivery), Memory>
+        ensures { IfOk result (λ followed. delivered octets.now self.now ≡ ended followed.0 followed.1) }
+    {
+        let octets = match Octets::copy(alloc, octets) {
+            Ok(octets) => octets,
+            Err(OctetsRefusal::TooMany { size: _ }) => {
+                return Ok((self.copy(alloc)?, Delivery::nothing(alloc)));
+            }
+            Err(OctetsRefusal::Memory) => return Err(Memory),
+        };
+        self.followed(alloc, UeInput::Delivered(octets))
+    }
+
+    /// What the handset is once the moment is told, and what it sends, as `tick` says it. It itself stays as it is until it becomes that.
+    ///
+    /// # Errors
+    ///
+    /// `Memory`.
+    #[tactic(auto, unfolding(crate::specs::Ticks::ticked))]
+    pub fn follow_tick(&self, alloc: Global, now: Moment) -> Result<(Handset, Sends), Memory>
+        ensures { IfOk result (λ followed. (followed.0 ≡ (ticked now self.now).handset) × (followed.1 ≡ (ticked now self.now).sends)) }
+    {
+        let handset = self.copy(alloc)?.at_moment(now);
+        let list = due_list(alloc, handset.moment, &handset.timers)?;
+        let mut turn = Turn::begin(alloc, handset);
+        turn.fire_all(alloc, list)?;
+        let (next, delivery) = turn.end();
+        Ok((next, delivery.sends))
     }
 
     /// What can be seen of it.
@@ -177,14 +233,14 @@ impl Handset {
         ensures owned { IfOk result (λ turn. HaveOwners turn.handset) }
     {
         let _moment = self.moment;
-        match self.followed(alloc, input) {
+        match self.begun(alloc, input) {
             Ok(turn) => Ok(turn),
             Err(refusal) => Err(refusal),
         }
     }
 
     // The new state, and the timers as what goes out leaves them.
-    fn followed(&self, alloc: Global, input: UeInput) -> Result<Turn, StepRefusal>
+    fn begun(&self, alloc: Global, input: UeInput) -> Result<Turn, StepRefusal>
         ensures { StepsFirst result (stepped input (begun self.now)) self.now }
     {
         let (mm, outs) = follow(alloc, &self.mm, self.moment, &Status::empty(), input)?;
@@ -215,21 +271,13 @@ impl Handset {
         }
     }
 
-    // The handset is what it came to in its turn, and what came of the turn is answered.
-    fn take_over(&mut self, turn: Turn) -> Delivery
-        requires { HaveOwners turn.handset }
-        ensures { turn ≡ record { handset = self.new; sends = result.sends; passed = result.passed; took = result.took } }
+    // The same, ended.
+    fn followed(&self, alloc: Global, input: UeInput) -> Result<(Handset, Delivery), Memory>
+        requires { IsNoExpiry input }
+        ensures { IfOk result (λ followed. turned input (begun self.now) ≡ ended followed.0 followed.1) }
     {
-        *self = Handset {
-            mm: turn.mm,
-            timers: turn.timers,
-            moment: turn.moment,
-        };
-        Delivery {
-            sends: turn.sends,
-            passed: turn.passed,
-            took: turn.took,
-        }
+        let turn = self.unrefused(alloc, input)?;
+        Ok(turn.end())
     }
 
     // At a moment, or at its own where that is later.
@@ -241,6 +289,26 @@ impl Handset {
             timers: self.timers,
             moment: self.moment.max(now),
         }
+    }
+}
+
+impl Turn {
+    // What the handset came to, and what came of the turn.
+    fn end(self) -> (Handset, Delivery)
+        requires { HaveOwners self.entry.handset }
+        ensures { self.entry ≡ ended result.0 result.1 }
+    {
+        let handset = Handset {
+            mm: self.mm,
+            timers: self.timers,
+            moment: self.moment,
+        };
+        let delivery = Delivery {
+            sends: self.sends,
+            passed: self.passed,
+            took: self.took,
+        };
+        (handset, delivery)
     }
 }
 

@@ -4,7 +4,7 @@ mod Due
 mod Few
 mod FirstOwners
 pub mod Growing
-mod Leading
 mod Owners
 mod Running
 mod Supis
+mod TakingOver

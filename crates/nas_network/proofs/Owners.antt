@@ -15,7 +15,7 @@ use Rattle.amf_laws.specs.Timers as laws
 use Rattle.amf_laws.proofs.KeptLaws.{kept_lists_have_two_at_most}
 use Rattle.amf_laws.proofs.SupiLaws.{same_subscribers_are_kept}
 use Rattle.amf_laws.proofs.TimerLaws.{subscribers_stay_distinct, timers_fit_procedures}
-use Rattle.nas_network.specs.Leading.{Lead, led}
+use Rattle.nas_network.specs.TakingOver.{TurnChanges, taken_over}
 use Rattle.nas_network.specs.Network.{amf_command, answered, commanded, outcome}
 use Rattle.nas_network.specs.Owners.{HaveOwners, IsNoExpiry, all_keep_few, running_for, running_of, timed}
 use Rattle.nas_network.specs.State.{NetworkState, timers_of}
@@ -137,17 +137,17 @@ fired_owned rand moment n owned =
     all_fired_owned rand (due_list moment n.timers) (begun (told moment n)) (told_owned moment n owned)
 
 -- what is taken over of an event
-answer_owned : (n : NetworkState) (l : Lead) (delivery : NetDelivery) (t : Turn) → answered (led l n) delivery ≡ t → HaveOwners t.network
-    → HaveOwners (led l n)
+answer_owned : (n : NetworkState) (l : TurnChanges) (delivery : NetDelivery) (t : Turn) → answered (taken_over l n) delivery ≡ t → HaveOwners t.network
+    → HaveOwners (taken_over l n)
 answer_owned n l delivery t is owned = subst (λ (u : Turn). HaveOwners u.network) (sym is) owned
 
-pub followed_once : (rand : List ℕ) (input : AmfInput) (n : NetworkState) (l : Lead) (delivery : NetDelivery) → IsNoExpiry input → HaveOwners n
-    → answered (led l n) delivery ≡ turned rand input (begun n) → HaveOwners (led l n)
+pub followed_once : (rand : List ℕ) (input : AmfInput) (n : NetworkState) (l : TurnChanges) (delivery : NetDelivery) → IsNoExpiry input → HaveOwners n
+    → answered (taken_over l n) delivery ≡ turned rand input (begun n) → HaveOwners (taken_over l n)
 followed_once rand input n l delivery none owned is =
     answer_owned n l delivery (turned rand input (begun n)) is (turned_owned rand input (begun n) none owned)
 
-pub followed_tick : (rand : List ℕ) (now : ℕ) (n : NetworkState) (l : Lead) (delivery : NetDelivery) → HaveOwners n
-    → answered (led l n) delivery ≡ ticked rand now n → HaveOwners (led l n)
+pub followed_tick : (rand : List ℕ) (now : ℕ) (n : NetworkState) (l : TurnChanges) (delivery : NetDelivery) → HaveOwners n
+    → answered (taken_over l n) delivery ≡ ticked rand now n → HaveOwners (taken_over l n)
 unfolding ticked
 followed_tick rand now n l delivery owned is = answer_owned n l delivery (ticked rand now n) is (fired_owned rand _ n owned)
 
@@ -167,8 +167,8 @@ outcome_owned rand input old new delivery (Err (steps.WrongState word)) step non
 outcome_owned rand input old new delivery (Err (steps.SqnSpent sqn)) step none is owned = absurd (cc is)
 outcome_owned rand input old new delivery (Err steps.Memory) step none is owned = absurd (cc is)
 
-pub followed_command : (rand : List ℕ) (command : NetCommand) (n : NetworkState) (l : Lead) (delivery : NetDelivery) → HaveOwners n
-    → commanded rand command n ≡ Ok (answered (led l n) delivery) → HaveOwners (led l n)
+pub followed_command : (rand : List ℕ) (command : NetCommand) (n : NetworkState) (l : TurnChanges) (delivery : NetDelivery) → HaveOwners n
+    → commanded rand command n ≡ Ok (answered (taken_over l n) delivery) → HaveOwners (taken_over l n)
 unfolding commanded
 followed_command rand command n l delivery owned is =
-    outcome_owned rand (amf_command command) n (led l n) delivery (stepped rand (amf_command command) (begun n)) refl (command_is_none command) is owned
+    outcome_owned rand (amf_command command) n (taken_over l n) delivery (stepped rand (amf_command command) (begun n)) refl (command_is_none command) is owned

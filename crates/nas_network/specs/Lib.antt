@@ -1,7 +1,7 @@
 pub mod Config
-pub mod Leading
 pub mod Network
 pub mod Owners
 pub mod State
+pub mod TakingOver
 pub mod Ticks
 pub mod Turns

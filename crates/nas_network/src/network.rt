@@ -2,7 +2,7 @@
 ghost use Rattle.std.specs.Prelude.{◌≡◌, max, take, true, IfOk, OnErr};
 ghost use Rattle.amf_core.specs.Naming.{is_kept_for_another};
 ghost use Rattle.amf_core.specs.State.{view_in};
-ghost use Rattle.nas_network.specs.Leading.{FollowsCommand, led};
+ghost use Rattle.nas_network.specs.TakingOver.{FollowsCommand, taken_over};
 ghost use Rattle.nas_network.specs.Network.{Commands, answered, commanded, delivered, dropped, most_taken};
 ghost use Rattle.nas_network.specs.Owners.{HaveOwners, IsNoExpiry, all_keep_few};
 ghost use Rattle.nas_network.specs.State.{first};
@@ -180,7 +180,7 @@ impl Network {
         command: &NetCommand,
     ) -> Result<(NetTurn, NetDelivery), NetRefusal>
         ensures value { FollowsCommand self.now result (commanded rand.now command.now self.now) }
-        ensures owned { IfOk result (λ followed. HaveOwners (led followed.0 self.now)) }
+        ensures owned { IfOk result (λ followed. HaveOwners (taken_over followed.0 self.now)) }
     {
         let turning = Turning::begin(alloc, self, self.moment);
         match turning.step(alloc, rand, &command.to_amf()) {
@@ -205,8 +205,8 @@ impl Network {
         fresh: bool,
         octets: &[u8],
     ) -> Result<(NetTurn, NetDelivery), Memory>
-        ensures value { IfOk result (λ followed. answered (led followed.0 self.now) followed.1 ≡ delivered rand.now link fresh octets.now self.now) }
-        ensures owned { IfOk result (λ followed. HaveOwners (led followed.0 self.now)) }
+        ensures value { IfOk result (λ followed. answered (taken_over followed.0 self.now) followed.1 ≡ delivered rand.now link fresh octets.now self.now) }
+        ensures owned { IfOk result (λ followed. HaveOwners (taken_over followed.0 self.now)) }
     {
         let Ok(octets) = Octets::copy(alloc, most_of(octets)) else {
             return Err(Memory);
@@ -231,8 +231,8 @@ impl Network {
         rand: &[u8; 16],
         now: Moment,
     ) -> Result<(NetTurn, NetDelivery), Memory>
-        ensures value { IfOk result (λ followed. answered (led followed.0 self.now) followed.1 ≡ ticked rand.now now self.now) }
-        ensures owned { IfOk result (λ followed. HaveOwners (led followed.0 self.now)) }
+        ensures value { IfOk result (λ followed. answered (taken_over followed.0 self.now) followed.1 ≡ ticked rand.now now self.now) }
+        ensures owned { IfOk result (λ followed. HaveOwners (taken_over followed.0 self.now)) }
     {
         let moment = later(self.moment, now);
         let list = due_list(alloc, moment, self.timers.as_slice())?;
@@ -243,8 +243,8 @@ impl Network {
 
     /// Takes over what was prepared on it.
     pub fn take_over(&mut self, turn: NetTurn)
-        requires { HaveOwners (led turn self.old) }
-        ensures { self.new ≡ led turn self.old }
+        requires { HaveOwners (taken_over turn self.old) }
+        ensures { self.new ≡ taken_over turn self.old }
     {
         let NetTurn {
             changes,
@@ -287,8 +287,8 @@ impl Network {
     ) -> Result<(NetTurn, NetDelivery), Memory>
         requires no_command { is_unrefused input.now ≡ true }
         requires no_expiry { IsNoExpiry input.now }
-        ensures value { IfOk result (λ followed. answered (led followed.0 self.now) followed.1 ≡ turned rand.now input.now (begun self.now)) }
-        ensures owned { IfOk result (λ followed. HaveOwners (led followed.0 self.now)) }
+        ensures value { IfOk result (λ followed. answered (taken_over followed.0 self.now) followed.1 ≡ turned rand.now input.now (begun self.now)) }
+        ensures owned { IfOk result (λ followed. HaveOwners (taken_over followed.0 self.now)) }
     {
         let turning = Turning::begin(alloc, self, self.moment);
         let turning = turning.unrefused(alloc, rand, input)?;

@@ -166,7 +166,7 @@ struct Firing<'a> {
 
 impl<'a> Model for Firing<'a> {
     ghost use Rattle.std.specs.Prelude.{◌≡◌};
-    ghost use Rattle.nas_network.specs.Leading.{TurningState};
+    ghost use Rattle.nas_network.specs.TakingOver.{TurningState};
 
     ghost Value = { TurningState };
 
@@ -197,7 +197,7 @@ impl<'a> Firing<'a> {
     }
 
     // It is stopped, and the step of its expiry is taken.
-    #[tactic(auto, using(crate::proofs::Leading::never_refused, crate::proofs::Leading::taken_timers), unfolding(crate::specs::Turns::turned))]
+    #[tactic(auto, using(crate::proofs::TakingOver::never_refused, crate::proofs::TakingOver::taken_timers), unfolding(crate::specs::Turns::turned))]
     fn expire(self, alloc: Global, rand: &[u8; 16], due: DueTimer) -> Result<Firing<'a>, Memory>
         ensures turn { IfOk result (λ firing. firing.turn ≡ expired rand.now due self.entry.turn) }
         ensures before { IfOk result (λ firing. firing.before ≡ self.entry.before) }

@@ -1,6 +1,6 @@
 //! The timers of the subscribers.
 ghost use Rattle.std.specs.Prelude.{◌≡◌, map, IfOk};
-ghost use Rattle.nas_network.specs.Leading.{timers_after, timers_taken};
+ghost use Rattle.nas_network.specs.TakingOver.{timers_after, timers_taken};
 ghost use Rattle.nas_network.specs.State.{deadline_for, no_timers, started_for, stopped_for};
 
 use crate::Subscriber;

@@ -1,6 +1,6 @@
 //! A network while it takes its steps.
 ghost use Rattle.std.specs.Prelude.{◌≡◌, true, IfOk, OnOk};
-ghost use Rattle.nas_network.specs.Leading.{Reaches, StepsOn, changed_by, led};
+ghost use Rattle.nas_network.specs.TakingOver.{Reaches, StepsOn, changed_by, taken_over};
 ghost use Rattle.nas_network.specs.Network.{answered};
 ghost use Rattle.nas_network.specs.Ticks.{told};
 ghost use Rattle.nas_network.specs.Turns.{all_taken, begun, is_unrefused, stepped, taken, turned};
@@ -22,9 +22,9 @@ pub struct NetTurn {
 }
 
 impl Model for NetTurn {
-    ghost use Rattle.nas_network.specs.Leading.{Lead};
+    ghost use Rattle.nas_network.specs.TakingOver.{TurnChanges};
 
-    ghost Value = { Lead };
+    ghost Value = { TurnChanges };
 
     ghost view = { λ t. record { changes = t.changes; timers = t.timers.items; moment = t.moment } };
 }
@@ -42,7 +42,7 @@ pub struct Turning<'a> {
 }
 
 impl<'a> Model for Turning<'a> {
-    ghost use Rattle.nas_network.specs.Leading.{TurningState, timers_after};
+    ghost use Rattle.nas_network.specs.TakingOver.{TurningState, timers_after};
 
     ghost Value = { TurningState };
 
@@ -86,7 +86,7 @@ impl<'a> Turning<'a> {
 
     /// What it changed, and what came of it.
     pub fn end(self) -> (NetTurn, NetDelivery)
-        ensures { answered (led result.0 self.entry.before) result.1 ≡ self.entry.turn }
+        ensures { answered (taken_over result.0 self.entry.before) result.1 ≡ self.entry.turn }
     {
         let turn = NetTurn {
             changes: self.core.changes(),
@@ -101,7 +101,7 @@ impl<'a> Turning<'a> {
     }
 
     /// The step of an input that no refusal meets.
-    #[tactic(auto, using(crate::proofs::Leading::never_refused), unfolding(crate::specs::Turns::turned))]
+    #[tactic(auto, using(crate::proofs::TakingOver::never_refused), unfolding(crate::specs::Turns::turned))]
     pub fn unrefused(
         self,
         alloc: Global,
@@ -192,7 +192,7 @@ impl<'a> Turning<'a> {
     }
 
     /// A timer starts or stops.
-    #[tactic(auto, using(crate::proofs::Leading::changed_last))]
+    #[tactic(auto, using(crate::proofs::TakingOver::changed_last))]
     pub fn change(&mut self, change: TimerChange) -> Result<(), Memory>
         ensures { OnOk result (self.new ≡ record self.old { turn = changed_by change self.old.turn }) }
     {

@@ -1,12 +1,14 @@
 //! Commands to both ends.
 ghost use Rattle.std.specs.Prelude.{◌≡◌, IfOk, OnErr};
+ghost use Rattle.nas_network.specs.Owners.{HaveOwners};
+ghost use Rattle.nas_network.specs.TakingOver.{taken_over};
 ghost use Rattle.nas_world.specs.Events.{order_for, ordered, sent_by_handset, sent_by_network, ue_commanded};
 
 use crate::logs::copied;
 use crate::{NetOrder, RefusedWord, Seen, World};
 use nas_base::{Memory, Supi};
 use nas_handset::{CommandRefusal, Handset, UeCommand};
-use nas_network::{NetCommand, NetRefusal, Network};
+use nas_network::{NetCommand, NetRefusal, NetTurn};
 use nas_security::Sends;
 use std::alloc::Global;
 
@@ -17,9 +19,8 @@ impl World {
         ensures ok { IfOk result (λ seen. ue_commanded command.now self.old ≡ (self.new, seen)) }
         ensures err { OnErr result (self.new ≡ self.old) }
     {
-        let mut handset = self.handset.copy(alloc)?;
-        match handset.command(alloc, command) {
-            Ok(sends) => self.handset_sends(alloc, handset, sends),
+        match self.handset.follow_command(alloc, command) {
+            Ok((handset, sends)) => self.handset_sends(alloc, handset, sends),
             Err(CommandRefusal::WrongState { state: _ }) => {
                 Ok(Seen::refusal(alloc, RefusedWord::WrongState))
             }
@@ -36,10 +37,9 @@ impl World {
         ensures ok { IfOk result (λ seen. ordered order self.old ≡ (self.new, seen)) }
         ensures err { OnErr result (self.new ≡ self.old) }
     {
-        let mut network = self.network.copy(alloc)?;
         let command = order_for(order, &self.supi);
-        match network.command(alloc, &self.random, &command) {
-            Ok(delivery) => self.network_sends(alloc, network, delivery.sends),
+        match self.network.follow_command(alloc, &self.random, &command) {
+            Ok((turn, delivery)) => self.network_sends(alloc, turn, delivery.sends),
             Err(NetRefusal::UnknownSupi) => { Ok(Seen::refusal(alloc, RefusedWord::UnknownSupi)) }
             Err(NetRefusal::WrongState { state: _ }) => {
                 Ok(Seen::refusal(alloc, RefusedWord::WrongState))
@@ -67,19 +67,20 @@ impl World {
         Ok(seen)
     }
 
-    /// The network came to this, and sent messages.
+    /// The network took its turn, and sent messages.
     pub(crate) fn network_sends(
         &mut self,
         alloc: Global,
-        network: Network,
+        turn: NetTurn,
         sends: Sends,
     ) -> Result<Seen, Memory>
-        ensures ok { IfOk result (λ seen. sent_by_network network sends self.old ≡ (self.new, seen)) }
+        requires { HaveOwners (taken_over turn self.old.network) }
+        ensures ok { IfOk result (λ seen. sent_by_network (taken_over turn self.old.network) sends self.old ≡ (self.new, seen)) }
         ensures err { OnErr result (self.new ≡ self.old) }
     {
         let seen = Seen::of(copied(alloc, &sends)?);
         self.judged.send_down(alloc, sends)?;
-        self.network = network;
+        self.network.take_over(turn);
         Ok(seen)
     }
 }

@@ -65,8 +65,9 @@ impl World {
         ensures ok { IfOk result (λ seen. brought_to_net fresh octets self.old ≡ (self.new, seen)) }
         ensures err { OnErr result (self.new ≡ self.old) }
     {
-        let mut network = self.network.copy(alloc)?;
-        let delivery = network.deliver(alloc, &self.random, LINK, fresh, octets.as_slice())?;
+        let (turn, delivery) = self
+            .network
+            .follow_delivery(alloc, &self.random, LINK, fresh, octets.as_slice())?;
         let seen = Seen::of(copied(alloc, &delivery.sends)?);
         let heard = Heard {
             octets,
@@ -75,7 +76,7 @@ impl World {
             sends: delivery.sends,
         };
         self.judged.hear_down(alloc, heard)?;
-        self.network = network;
+        self.network.take_over(turn);
         Ok(seen)
     }
 
@@ -85,8 +86,7 @@ impl World {
         ensures ok { IfOk result (λ seen. brought_to_ue octets self.old ≡ (self.new, seen)) }
         ensures err { OnErr result (self.new ≡ self.old) }
     {
-        let mut handset = self.handset.copy(alloc)?;
-        let delivery = handset.deliver(alloc, octets.as_slice())?;
+        let (handset, delivery) = self.handset.follow_delivery(alloc, octets.as_slice())?;
         let seen = Seen::of(copied(alloc, &delivery.sends)?);
         let heard = Heard {
             octets,

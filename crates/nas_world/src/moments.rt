@@ -17,8 +17,7 @@ impl World {
         ensures ok { IfOk result (λ seen. ue_ticked now self.old ≡ (self.new, seen)) }
         ensures err { OnErr result (self.new ≡ self.old) }
     {
-        let mut handset = self.handset.copy(alloc)?;
-        let sends = handset.tick(alloc, now)?;
+        let (handset, sends) = self.handset.follow_tick(alloc, now)?;
         self.handset_sends(alloc, handset, sends)
     }
 
@@ -28,9 +27,8 @@ impl World {
         ensures ok { IfOk result (λ seen. net_ticked now self.old ≡ (self.new, seen)) }
         ensures err { OnErr result (self.new ≡ self.old) }
     {
-        let mut network = self.network.copy(alloc)?;
-        let delivery = network.tick(alloc, &self.random, now)?;
-        self.network_sends(alloc, network, delivery.sends)
+        let (turn, delivery) = self.network.follow_tick(alloc, &self.random, now)?;
+        self.network_sends(alloc, turn, delivery.sends)
     }
 
     /// The handset loses its connection.

@@ -1,5 +1,5 @@
 use Rattle.std.proofs.Common.{◌≡◌, drop}
-use Rattle.nas_network.specs.Leading.{timers_after}
+use Rattle.nas_network.specs.TakingOver.{timers_after}
 use Rattle.nas_network.proofs.timers.change_all.Given as goal
 
 -- what is left to happen gives the whole

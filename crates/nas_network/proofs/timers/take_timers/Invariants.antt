@@ -1,5 +1,5 @@
 use Rattle.std.proofs.Common.{◌≡◌, drop}
-use Rattle.nas_network.specs.Leading.{timers_taken}
+use Rattle.nas_network.specs.TakingOver.{timers_taken}
 use Rattle.nas_network.proofs.timers.take_timers.Given as goal
 
 -- what is left to be taken gives the whole

@@ -1,5 +1,5 @@
 use Rattle.nas_handset.proofs.Long.{too_many}
-use Rattle.nas_handset.proofs.handset.Handset.deliver.Goals as goal
+use Rattle.nas_handset.proofs.handset.Handset.follow_delivery.Goals as goal
 
 pub returns-in-Err-TooMany-clause-ok : goal.returns-in-Err-TooMany-clause-ok
 returns-in-Err-TooMany-clause-ok c =

@@ -37,13 +37,13 @@ abbrev pub changed_by : TimerChange → Turn → Turn
 changed_by c t = record t { network = record t.network { timers = timers_by c t.network.timers } }
 
 -- what a turn changed of a network: the AMF's records and the home network, the timers, and the moment
-pub record Lead : Type 0 where
+pub record TurnChanges : Type 0 where
   pub changes : ChangeLists
   pub timers : List TimerChange
   pub moment : ℕ
 
-abbrev pub led : Lead → NetworkState → NetworkState
-led l n = record {
+abbrev pub taken_over : TurnChanges → NetworkState → NetworkState
+taken_over l n = record {
   amf = changed l.changes n.amf;
   home = home_now l.changes.home n.home;
   timers = timers_after l.timers n.timers;
@@ -76,8 +76,8 @@ StepsOn old (Err (refusals.WrongState word)) step = step ≡ Err (refusals.Wrong
 StepsOn old (Err (refusals.SqnSpent n)) step = step ≡ Err (refusals.SqnSpent n)
 
 -- what a command comes to, where the network takes it over
-abbrev pub FollowsCommand : NetworkState → Result (Lead × NetDelivery) NetRefusal → Result Turn NetRefusal → Type 0
-FollowsCommand n (Ok (lead, delivery)) row = row ≡ Ok (answered (led lead n) delivery)
+abbrev pub FollowsCommand : NetworkState → Result (TurnChanges × NetDelivery) NetRefusal → Result Turn NetRefusal → Type 0
+FollowsCommand n (Ok (lead, delivery)) row = row ≡ Ok (answered (taken_over lead n) delivery)
 FollowsCommand n (Err Memory) row = Unit {0}
 FollowsCommand n (Err UnknownSupi) row = row ≡ Err UnknownSupi
 FollowsCommand n (Err (WrongState word)) row = row ≡ Err (WrongState word)

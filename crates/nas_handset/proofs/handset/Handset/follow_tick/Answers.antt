@@ -4,10 +4,10 @@ use Rattle.nas_handset.specs.State.{HandsetState}
 use Rattle.nas_handset.specs.Ticks.{all_fired}
 use Rattle.nas_handset.specs.Turns.{begun}
 use Rattle.nas_handset.proofs.Owners.{all_fired_owned}
-use Rattle.nas_handset.proofs.handset.Handset.tick.Goals as goal
+use Rattle.nas_handset.proofs.handset.Handset.follow_tick.Goals as goal
 
-pub take_over-requires : goal.take_over-requires
-take_over-requires c =
+pub end-requires : goal.end-requires
+end-requires c =
     let fired : c.fire_all.new.self ≡ all_fired c.in_ok-list.list.items c.begin-turn.result = c.in_ok-fire_all.ensures in
     rw (fired, c.begin-turn.ensures)
     (all_fired_owned c.in_ok-list.list.items (begun c.at_moment-handset.result)

@@ -6,7 +6,7 @@ use Rattle.amf_core.specs.declared.inputs.AmfInput.TheVariants.{Uplink, Expired,
 use Rattle.amf_core.specs.declared.inputs.AmfRefusal.{AmfRefusal}
 use Rattle.amf_core.specs.declared.outs.AmfOut.{AmfOut}
 use Rattle.amf_core.specs.declared.outs.AmfOut.TheVariants as outs
-use Rattle.nas_network.specs.Leading.{timers_after, timers_by, timers_taken}
+use Rattle.nas_network.specs.TakingOver.{timers_after, timers_by, timers_taken}
 use Rattle.nas_network.specs.State.{SubscriberTimers, started_for, stopped_for}
 use Rattle.nas_network.specs.Turns.{Turn, all_taken, is_unrefused, stepped, taken}
 use Rattle.nas_network.specs.declared.timers.TimerChange.{TimerChange}
