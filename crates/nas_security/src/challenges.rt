@@ -1,4 +1,5 @@
 //! Challenges.
+ghost use Rattle.std.specs.Prelude.{◌≡◌};
 ghost use Rattle.nas_security.specs.Contexts.{is_challenge};
 
 /// What names a challenge, and with it the security context that comes of it: the sequence number and RAND
