@@ -5,7 +5,7 @@ use Rattle.std.proofs.lemmas.Slice.Eq.{bytes_eq-Decides}
 use Rattle.amf_core.specs.Keyed.{all_current, current, newest, or_kept, put_in}
 use Rattle.amf_core.specs.State.{is_same_link, is_same_subscriber}
 use Rattle.amf_core.specs.declared.link.Link.{Link}
-use Rattle.amf_core.specs.declared.subscriber.Subscriber.{Subscriber}
+use Rattle.amf_core.specs.declared.subscriber.Record.{Record}
 
 pub unchanged_stay : {A : Type 0} (same : A → A → Bool) (records : List A) → all_current same [] records ≡ records
 unchanged_stay same [] = refl
@@ -46,7 +46,7 @@ subscribers_keep s x y e = grind (arith, bytes_eq-Decides x.supi y.supi, e)
 links_keep : KeepsKeys is_same_link
 links_keep s x y e = grind (arith, nat_tests, e)
 
-pub subscriber_put : (s : Subscriber) (ys xs : List Subscriber)
+pub subscriber_put : (s : Record) (ys xs : List Record)
     → all_current is_same_subscriber (s ∷ ys) xs ≡ put_in is_same_subscriber s (all_current is_same_subscriber ys xs)
 subscriber_put s ys xs = all_put is_same_subscriber subscribers_keep s ys xs
 

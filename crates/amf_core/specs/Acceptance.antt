@@ -23,7 +23,7 @@ use Rattle.amf_core.specs.declared.procedures.Procedure.{Procedure}
 use Rattle.amf_core.specs.declared.procedures.Procedure.TheVariants as procedures
 use Rattle.amf_core.specs.declared.requests.Request.{Request}
 use Rattle.amf_core.specs.declared.subscriber.Offer.{Offer}
-use Rattle.amf_core.specs.declared.subscriber.Subscriber.{Subscriber}
+use Rattle.amf_core.specs.declared.subscriber.Record.{Record}
 
 -- An initial registration releases all sessions, any other those that the handset doesn't tell, where it tells any. What is left of
 -- those that were told last is told the handset.
@@ -33,12 +33,12 @@ is_initial Mobility = false
 is_initial Periodic = false
 is_initial Emergency = false
 
-abbrev pub released : Whole → Subscriber → Work → Work
+abbrev pub released : Whole → Record → Work → Work
 released q s w =
     when is_initial q.registration then ask ReleaseAll s w
     else per q.status w (λ (held : List Bool). ask (KeepOnly held) s w)
 
-abbrev pub told_sessions : Whole → Subscriber → List Bool
+abbrev pub told_sessions : Whole → Record → List Bool
 told_sessions q s =
     when is_initial q.registration then no_session
     else per q.status s.status (λ (held : List Bool). both s.status held)
@@ -50,7 +50,7 @@ new_guti config tmsi = record { plmn = config.plmn; region = config.region; set_
 abbrev pub kept_with : Option Guti → Guti → List Guti → List Guti
 kept_with named g kept = per named (g ∷ []) (λ (x : Guti). when is_any (is_guti x) kept then x ∷ g ∷ [] else g ∷ [])
 
-abbrev pub opened_acceptance : Accepting → Option Guti → Challenge → Subscriber → Subscriber
+abbrev pub opened_acceptance : Accepting → Option Guti → Challenge → Record → Record
 opened_acceptance a named challenge s = record s {
   procedure = procedures.Accepting a;
   kept = kept_with named a.guti s.kept;
@@ -65,35 +65,35 @@ tmsi_of w = w.amf.tmsi
 abbrev pub tmsi_taken : Work → Work
 tmsi_taken w = record w { amf = with_next_tmsi w.amf }
 
-abbrev pub acceptance_put : ℕ → Accepting → Subscriber → Work → Work
+abbrev pub acceptance_put : ℕ → Accepting → Record → Work → Work
 acceptance_put number a s w = start T3550 s (accept_sent a number s (put s w))
 
-abbrev pub offered : ℕ → Request → Whole → Challenge → Subscriber → Work → Work
+abbrev pub offered : ℕ → Request → Whole → Challenge → Record → Work → Work
 offered number r q challenge s w =
     let a : Accepting = record { request = r; guti = new_guti (config_of w) (tmsi_of w); status = told_sessions q s; sendings = 1 } in
     acceptance_put number a (opened_acceptance a q.guti challenge s) (tmsi_taken w)
 
 -- The registration goes on under the context that has just been taken into use. Where no 5G-TMSI is left it is rejected.
-abbrev pub registration_granted : ℕ → Request → Whole → Challenge → Subscriber → Work → Work
+abbrev pub registration_granted : ℕ → Request → Whole → Challenge → Record → Work → Work
 registration_granted number r q challenge s w =
     when nat_lt (tmsi_of w) (2 ^ 32) then offered number r q challenge s w
     else answer_for s number (mm.RegistrationReject (record { cause = cause.PROTOCOL_ERROR_UNSPECIFIED })) w
 
-unfoldable pub registration_goes_on : ℕ → Request → Whole → SecurityContext → Subscriber → Work → Work
+unfoldable pub registration_goes_on : ℕ → Request → Whole → SecurityContext → Record → Work → Work
 registration_goes_on number r q context s w = registration_granted number r q context.challenge s (released q s w)
 
 -- REGISTRATION COMPLETE under the challenge that the 5G-GUTI was offered under: it is kept alone. The acceptance ends, if it is still
 -- open; another procedure goes on.
-abbrev pub acceptance_ended : Procedure → Subscriber → Work → Work
+abbrev pub acceptance_ended : Procedure → Record → Work → Work
 acceptance_ended (procedures.Accepting a) s w = ended s w
 acceptance_ended procedures.Idle s w = put s w
 acceptance_ended (procedures.Challenging c) s w = put s w
 acceptance_ended (procedures.Deregistering d) s w = put s w
 
-abbrev pub confirmed : Guti → Subscriber → Subscriber
+abbrev pub confirmed : Guti → Record → Record
 confirmed g s = record s { kept = g ∷ []; completed = true }
 
-unfoldable pub registration_completed : Challenge → Subscriber → Work → Work
+unfoldable pub registration_completed : Challenge → Record → Work → Work
 registration_completed challenge s w =
     per s.offered w (λ (o : Offer).
     when is_challenge o.challenge challenge then acceptance_ended s.procedure (confirmed o.guti s) w else w)

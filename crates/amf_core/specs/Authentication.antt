@@ -21,7 +21,7 @@ use Rattle.amf_core.specs.declared.procedures.Procedure.{Procedure}
 use Rattle.amf_core.specs.declared.procedures.Procedure.TheVariants as procedures
 use Rattle.amf_core.specs.declared.procedures.Purpose.{Purpose}
 use Rattle.amf_core.specs.declared.procedures.Purpose.TheVariants.{Registration, Command}
-use Rattle.amf_core.specs.declared.subscriber.Subscriber.{Subscriber}
+use Rattle.amf_core.specs.declared.subscriber.Record.{Record}
 
 -- The challenge that waits for the answer to its AUTHENTICATION REQUEST, which is taken on its own link alone.
 abbrev pub asking_in : Phase → Challenging → Option Asking
@@ -50,30 +50,30 @@ made a = record {
 abbrev pub commanding : Asking → Challenging
 commanding o = record o.challenging { phase = Mode (made o.auth); sendings = 1 }
 
-abbrev pub mode_commanded : Asking → Subscriber → Work → Work
+abbrev pub mode_commanded : Asking → Record → Work → Work
 mode_commanded o s w = challenge_put (commanding o) (challenge_open (commanding o) s) w
 
-abbrev pub authentication_rejected : ℕ → Subscriber → Work → Work
+abbrev pub authentication_rejected : ℕ → Record → Work → Work
 authentication_rejected number s w = answer_for s number mm.AuthenticationReject (ended s w)
 
 abbrev pub is_expected : Option (List ℕ) → AuthenticationValues → Bool
 is_expected res_star a = per res_star false (λ (octets : List ℕ). bytes_eq octets a.res_star)
 
 -- AUTHENTICATION RESPONSE
-abbrev pub answered : AuthenticationResponse → ℕ → Asking → Subscriber → Work → Work
+abbrev pub answered : AuthenticationResponse → ℕ → Asking → Record → Work → Work
 answered m number o s w =
     when is_expected m.res_star o.auth then mode_commanded o s w else authentication_rejected number s w
 
-unfoldable pub responded : AuthenticationResponse → ℕ → Subscriber → Work → Work
+unfoldable pub responded : AuthenticationResponse → ℕ → Record → Work → Work
 responded m number s w = per (asking_on number s.procedure) w (λ (o : Asking). answered m number o s w)
 
 -- A challenge takes the place of another, for the same purpose: for a registration on the same link, for a command on the link that the
 -- subscriber has by now.
-abbrev pub next_link : Purpose → Challenging → Subscriber → Option ℕ
+abbrev pub next_link : Purpose → Challenging → Record → Option ℕ
 next_link (Registration request) c s = c.link
 next_link Command c s = s.link
 
-abbrev pub challenged_again : Challenging → Subscriber → Work → Work
+abbrev pub challenged_again : Challenging → Record → Work → Work
 challenged_again c s w = challenge c.purpose (next_link c.purpose c s) None s w
 
 -- an AUTS that is right brings SQN_HE up to SQN_MS
@@ -81,20 +81,20 @@ abbrev pub is_right : {E : Type 0} → Result Unit E → Bool
 is_right (Ok done) = true
 is_right (Err refusal) = false
 
-abbrev pub resynchronised : List ℕ → Asking → Subscriber → Work → Work
+abbrev pub resynchronised : List ℕ → Asking → Record → Work → Work
 resynchronised auts o s w =
     let rand : List ℕ = o.auth.challenge.rand in
     when is_right (resync_of s.supi rand auts w.home)
     then challenged_again o.challenging s (put_home (resynced s.supi rand auts w.home) w) else w
 
 -- MAC failure and non-5G authentication unacceptable end the challenge; synch failure and ngKSI already in use are followed by another
-abbrev pub failed_by : AuthenticationFailure → ℕ → Asking → Subscriber → Work → Work
+abbrev pub failed_by : AuthenticationFailure → ℕ → Asking → Record → Work → Work
 failed_by m number o s w =
     when m.cause == cause.MAC_FAILURE || m.cause == cause.NON_5G_AUTHENTICATION_UNACCEPTABLE then authentication_rejected number s w
     else (when m.cause == cause.SYNCH_FAILURE then per m.auts w (λ (auts : List ℕ). resynchronised auts o s w)
     else (when m.cause == cause.NGKSI_ALREADY_IN_USE then challenged_again o.challenging s w else w))
 
 -- AUTHENTICATION FAILURE
-unfoldable pub authentication_failed : AuthenticationFailure → ℕ → Subscriber → Work → Work
+unfoldable pub authentication_failed : AuthenticationFailure → ℕ → Record → Work → Work
 authentication_failed m number s w =
     per (asking_on number s.procedure) w (λ (o : Asking). failed_by m number o s w)

@@ -24,37 +24,37 @@ use Rattle.amf_core.specs.declared.procedures.Procedure.{Procedure}
 use Rattle.amf_core.specs.declared.procedures.Procedure.TheVariants as procedures
 use Rattle.amf_core.specs.declared.procedures.Purpose.{Purpose}
 use Rattle.amf_core.specs.declared.procedures.Purpose.TheVariants.{Registration, Command}
-use Rattle.amf_core.specs.declared.subscriber.Subscriber.{Subscriber}
+use Rattle.amf_core.specs.declared.subscriber.Record.{Record}
 
 -- A procedure ends: its timer is stopped.
-abbrev pub stopped_of : Procedure → Subscriber → Work → Work
+abbrev pub stopped_of : Procedure → Record → Work → Work
 stopped_of procedures.Idle s w = w
 stopped_of (procedures.Challenging c) s w = stop T3560 s w
 stopped_of (procedures.Accepting a) s w = stop T3550 s w
 stopped_of (procedures.Deregistering d) s w = stop T3522 s w
 
-unfoldable pub stopped : Subscriber → Work → Work
+unfoldable pub stopped : Record → Work → Work
 stopped s w = stopped_of s.procedure s w
 
-abbrev pub idle : Subscriber → Subscriber
+abbrev pub idle : Record → Record
 idle s = record s { procedure = procedures.Idle }
 
-unfoldable pub ended : Subscriber → Work → Work
+unfoldable pub ended : Record → Work → Work
 ended s w = put (idle s) (stopped s w)
 
 -- A new ngKSI is neither that of the context in use nor the last one used: the least one left is 0, 1 or 2.
-abbrev pub is_ksi_taken : ℕ → Subscriber → Bool
+abbrev pub is_ksi_taken : ℕ → Record → Bool
 is_ksi_taken ksi s =
     per s.in_use false (λ context. context.ksi == ksi) || per s.last_ksi false (λ last. last == ksi)
 
-unfoldable pub new_ksi : Subscriber → ℕ
+unfoldable pub new_ksi : Record → ℕ
 new_ksi s = if not (is_ksi_taken 0 s) then 0 else (if not (is_ksi_taken 1 s) then 1 else 2)
 
 -- The capability that counts where none was told has no algorithm.
 abbrev pub no_algorithm : List ℕ
 no_algorithm = 0 ∷ 0 ∷ []
 
-abbrev pub capability_of : Subscriber → List ℕ
+abbrev pub capability_of : Record → List ℕ
 capability_of s = per s.capability no_algorithm (λ (capability : List ℕ). capability)
 
 -- 128-NEA2 where the handset can't do without ciphering, or where it can cipher by it and the network prefers to
@@ -66,7 +66,7 @@ abbrev pub kamf_of : Configured → List ℕ → Vector → List ℕ
 kamf_of config supi v = challenge_kamf v.ck v.ik v.autn config.plmn supi abba
 
 -- what the answer to a vector is compared with, and what comes of it
-abbrev pub authentication : Configured → Vector → Subscriber → AuthenticationValues
+abbrev pub authentication : Configured → Vector → Record → AuthenticationValues
 authentication config v s = record {
   challenge = record { sqn = v.sqn; rand = v.rand };
   ksi = new_ksi s;
@@ -85,20 +85,20 @@ asked_for Command = None
 abbrev pub authentication_request : AuthenticationValues → AuthenticationRequest
 authentication_request a = record { ksi = a.ksi; abba = abba; rand = Some a.challenge.rand; autn = Some a.autn }
 
-abbrev pub request_sent : AuthenticationValues → ℕ → Subscriber → Work → Work
+abbrev pub request_sent : AuthenticationValues → ℕ → Record → Work → Work
 request_sent a number s w =
     say number (by_link (link_of number w) s.supi) (mm.AuthenticationRequest (authentication_request a)) w
 
-abbrev pub security_mode_command : SecurityContext → Challenging → Subscriber → SecurityModeCommand
+abbrev pub security_mode_command : SecurityContext → Challenging → Record → SecurityModeCommand
 security_mode_command context c s =
     record { algs = context.algs; ksi = context.ksi; capability = capability_of s; asi = asked_for c.purpose }
 
-abbrev pub phase_sent : Phase → Challenging → Subscriber → Work → Work
+abbrev pub phase_sent : Phase → Challenging → Record → Work → Work
 phase_sent (Auth a) c s w = per c.link w (λ (number : ℕ). request_sent a number s w)
 phase_sent (Mode context) c s w =
     say_on c.link (IntegrityProtectedWithNewContext s.supi) (mm.SecurityModeCommand (security_mode_command context c s)) w
 
-unfoldable pub challenge_sent : Challenging → Subscriber → Work → Work
+unfoldable pub challenge_sent : Challenging → Record → Work → Work
 challenge_sent c s w = phase_sent c.phase c s w
 
 -- the subscriber is that of the link which it was last challenged on
@@ -109,18 +109,18 @@ abbrev pub claimed : Option ℕ → List ℕ → Work → Work
 claimed link supi w = per link w (λ (number : ℕ). claimed_one number supi w)
 
 -- a challenge is put, and stands as the subscriber's procedure; T3560 runs
-abbrev pub challenge_put : Challenging → Subscriber → Work → Work
+abbrev pub challenge_put : Challenging → Record → Work → Work
 challenge_put c s w = start T3560 s (challenge_sent c s (put s w))
 
-abbrev pub challenge_open : Challenging → Subscriber → Subscriber
+abbrev pub challenge_open : Challenging → Record → Record
 challenge_open c s = record s { procedure = procedures.Challenging c }
 
-abbrev pub begun_with : AuthenticationValues → Purpose → Option ℕ → Subscriber → Work → Work
+abbrev pub begun_with : AuthenticationValues → Purpose → Option ℕ → Record → Work → Work
 begun_with a purpose link s w =
     let c : Challenging = record { purpose = purpose; link = link; phase = Auth a; sendings = 1 } in
     challenge_put c (challenge_open c (record s { last_ksi = Some a.ksi })) (claimed link s.supi w)
 
-unfoldable pub challenge_begun : Purpose → Option ℕ → Vector → Subscriber → Work → Work
+unfoldable pub challenge_begun : Purpose → Option ℕ → Vector → Record → Work → Work
 challenge_begun purpose link v s w = begun_with (authentication (config_of w) v s) purpose link s w
 
 -- Where no sequence number is left, none is open. A registration is then rejected.
@@ -129,10 +129,10 @@ challenge_refused (Registration request) link w = per link w (λ (number : ℕ).
 challenge_refused Command link w = w
 
 -- the capability that a registration tells, where it tells one
-abbrev pub told : Option (List ℕ) → Subscriber → Subscriber
+abbrev pub told : Option (List ℕ) → Record → Record
 told capability s = per capability s (λ (octets : List ℕ). record s { capability = Some octets })
 
-abbrev pub by_vector : Result Vector HomeRefusal → Purpose → Option ℕ → Option (List ℕ) → Subscriber → Work → Work
+abbrev pub by_vector : Result Vector HomeRefusal → Purpose → Option ℕ → Option (List ℕ) → Record → Work → Work
 by_vector (Ok v) purpose link capability s w = challenge_begun purpose link v (told capability (idle s)) w
 by_vector (Err refusal) purpose link capability s w = challenge_refused purpose link (put (idle s) w)
 
@@ -142,10 +142,10 @@ VectorFits (Ok v) = v.sqn < 2 ^ 48
 VectorFits (Err refusal) = Unit {0}
 
 -- A challenge starts where nothing is open. Whatever was open ends.
-abbrev pub challenge_next : Purpose → Option ℕ → Option (List ℕ) → Subscriber → Work → Work
+abbrev pub challenge_next : Purpose → Option ℕ → Option (List ℕ) → Record → Work → Work
 challenge_next purpose link capability s w =
     by_vector (challenge_of s.supi w.rand w.home) purpose link capability s
     (put_home (challenged s.supi w.rand w.home) w)
 
-unfoldable pub challenge : Purpose → Option ℕ → Option (List ℕ) → Subscriber → Work → Work
+unfoldable pub challenge : Purpose → Option ℕ → Option (List ℕ) → Record → Work → Work
 challenge purpose link capability s w = challenge_next purpose link capability s (stopped s w)

@@ -4,7 +4,7 @@ use Rattle.milenage.specs.Home.{HomeRecord}
 use Rattle.amf_core.specs.Keyed.{all_current}
 use Rattle.amf_core.specs.State.{AmfState, is_same_link, is_same_subscriber}
 use Rattle.amf_core.specs.declared.link.Link.{Link}
-use Rattle.amf_core.specs.declared.subscriber.Subscriber.{Subscriber}
+use Rattle.amf_core.specs.declared.subscriber.Record.{Record}
 
 -- the AMF, and the home network
 pub record CoreState : Type 0 where
@@ -13,7 +13,7 @@ pub record CoreState : Type 0 where
 
 -- the records that changed, the newest first, the next 5G-TMSI, and the home network, if it changed
 pub record ChangeLists : Type 0 where
-  pub subscribers : List Subscriber
+  pub subscribers : List Record
   pub links : List Link
   pub tmsi : ℕ
   pub home : Option (List HomeRecord)

@@ -15,7 +15,7 @@ use Rattle.amf_core.specs.declared.procedures.Challenging.{Challenging}
 use Rattle.amf_core.specs.declared.procedures.Phase.TheVariants.{Mode}
 use Rattle.amf_core.specs.declared.procedures.Procedure.TheVariants as procedures
 use Rattle.amf_core.specs.declared.security_mode.Commanding.{Commanding}
-use Rattle.amf_core.specs.declared.subscriber.Subscriber.{Subscriber}
+use Rattle.amf_core.specs.declared.subscriber.Record.{Record}
 
 -- the count of octets that passed, and their plain message
 pub record Opened : Type 0 where
@@ -42,7 +42,7 @@ pub record Passage : Type 0 where
   pub message : List ℕ
 
 -- The link of a message that passed becomes the subscriber's.
-abbrev pub passed_in_use : ℕ → SecurityContext → ℕ → Subscriber → Check
+abbrev pub passed_in_use : ℕ → SecurityContext → ℕ → Record → Check
 passed_in_use number context count s = record {
   subscriber = record s { in_use = Some (with_count count context); link = Some number };
   challenge = context.challenge;
@@ -50,7 +50,7 @@ passed_in_use number context count s = record {
   count = count;
 }
 
-unfoldable pub checked_in_use : ℕ → List ℕ → Subscriber → Option Passage
+unfoldable pub checked_in_use : ℕ → List ℕ → Record → Option Passage
 checked_in_use number octets s =
     per s.in_use None (λ (context : SecurityContext).
     per (opened context octets) None (λ (o : Opened). Some (record { check = passed_in_use number context o.count s; message = o.message })))
@@ -58,7 +58,7 @@ checked_in_use number octets s =
 abbrev pub counted_mode : Commanding → ℕ → Challenging
 counted_mode m count = record m.challenging { phase = Mode (with_count count m.context) }
 
-abbrev pub passed_pending : ℕ → Commanding → ℕ → Subscriber → Check
+abbrev pub passed_pending : ℕ → Commanding → ℕ → Record → Check
 passed_pending number m count s = record {
   subscriber = record s { procedure = procedures.Challenging (counted_mode m count); link = Some number };
   challenge = m.context.challenge;
@@ -66,7 +66,7 @@ passed_pending number m count s = record {
   count = count;
 }
 
-unfoldable pub checked_pending : ℕ → List ℕ → Subscriber → Option Passage
+unfoldable pub checked_pending : ℕ → List ℕ → Record → Option Passage
 checked_pending number octets s =
     per (commanding_on number s.procedure) None (λ (m : Commanding).
     per (opened m.context octets) None (λ (o : Opened). Some (record { check = passed_pending number m o.count s; message = o.message })))

@@ -16,7 +16,7 @@ use Rattle.amf_core.specs.declared.inputs.AmfRefusal.TheVariants.{UnknownSupi, W
 use Rattle.amf_core.specs.declared.procedures.Procedure.{Procedure}
 use Rattle.amf_core.specs.declared.procedures.Procedure.TheVariants as procedures
 use Rattle.amf_core.specs.declared.procedures.Purpose.TheVariants.{Command}
-use Rattle.amf_core.specs.declared.subscriber.Subscriber.{Subscriber}
+use Rattle.amf_core.specs.declared.subscriber.Record.{Record}
 
 -- A command begins where its subscriber is registered and no procedure is open.
 abbrev pub is_registered : AmfWord → Bool
@@ -31,24 +31,24 @@ is_idle (procedures.Challenging c) = false
 is_idle (procedures.Accepting a) = false
 is_idle (procedures.Deregistering d) = false
 
-abbrev pub may_begin : Subscriber → Bool
+abbrev pub may_begin : Record → Bool
 may_begin s = is_registered (word_of s) && is_idle s.procedure
 
 -- To authenticate it, on the link that it has: where a sequence number is left.
-abbrev pub by_sqn : Result Vector HomeRefusal → Subscriber → Work → Result Work AmfRefusal
+abbrev pub by_sqn : Result Vector HomeRefusal → Record → Work → Result Work AmfRefusal
 by_sqn (Err (homes.SqnSpent n)) s w = Err (SqnSpent n)
 by_sqn (Err homes.Unknown) s w = Ok (challenge_next Command s.link None s w)
 by_sqn (Ok v) s w = Ok (challenge_next Command s.link None s w)
 
-abbrev pub authenticated : Subscriber → Work → Result Work AmfRefusal
+abbrev pub authenticated : Record → Work → Result Work AmfRefusal
 authenticated s w = when may_begin s then by_sqn (challenge_of s.supi w.rand w.home) s w else Err (WrongState (word_of s))
 
 unfoldable pub authenticate : List ℕ → Work → Result Work AmfRefusal
-authenticate supi w = per (subscriber supi w) (Err UnknownSupi) (λ (s : Subscriber). authenticated s w)
+authenticate supi w = per (subscriber supi w) (Err UnknownSupi) (λ (s : Record). authenticated s w)
 
 -- To de-register it.
-abbrev pub left : Subscriber → Work → Result Work AmfRefusal
+abbrev pub left : Record → Work → Result Work AmfRefusal
 left s w = when may_begin s then Ok (deregistration_put (record { sendings = 1 }) s w) else Err (WrongState (word_of s))
 
 unfoldable pub deregister : List ℕ → Work → Result Work AmfRefusal
-deregister supi w = per (subscriber supi w) (Err UnknownSupi) (λ (s : Subscriber). left s w)
+deregister supi w = per (subscriber supi w) (Err UnknownSupi) (λ (s : Record). left s w)

@@ -26,7 +26,7 @@ use Rattle.amf_core.specs.State.{word_of}
 use Rattle.amf_core.specs.Transport.{transported}
 use Rattle.amf_core.specs.Work.{Work, link_of, put_link, status, subscriber_of_link}
 use Rattle.amf_core.specs.declared.checks.Check.{Check}
-use Rattle.amf_core.specs.declared.subscriber.Subscriber.{Subscriber}
+use Rattle.amf_core.specs.declared.subscriber.Record.{Record}
 
 -- The row of each message that passed and that the table of collisions takes.
 unfoldable pub taken : ℕ → Check → Mm → Work → Work
@@ -71,7 +71,7 @@ by_table Discard number c message w = w
 by_table Status43 number c message w = w
 by_table Status47 number c message w = w
 
-abbrev pub action : Mm → Subscriber → Action
+abbrev pub action : Mm → Record → Action
 action message s = collide_amf (word_of s) s.registered (kind_of message)
 
 abbrev pub faulty : ℕ → List ℕ → Work → Work
@@ -93,8 +93,8 @@ passing number p w = passed number p.message p.check w
 
 -- The plain messages that are taken before secure exchange: those of the table. They have the rows of the subscriber that the link last
 -- passed or challenged. A SERVICE REQUEST that didn't pass is rejected.
-abbrev pub of_link : ℕ → (Subscriber → Work → Work) → Work → Work
-of_link number row w = per (subscriber_of_link number w) w (λ (s : Subscriber). row s w)
+abbrev pub of_link : ℕ → (Record → Work → Work) → Work → Work
+of_link number row w = per (subscriber_of_link number w) w (λ (s : Record). row s w)
 
 unfoldable pub taken_plain : ℕ → Mm → Work → Work
 taken_plain number (mm.RegistrationRequest m) w = registration_requested m number None w
@@ -143,14 +143,14 @@ abbrev pub message_of : Result Mm MmRefusal → Option Mm
 message_of (Ok message) = Some message
 message_of (Err refusal) = None
 
-abbrev pub named_inside : Option Mm → Work → Option Subscriber
+abbrev pub named_inside : Option Mm → Work → Option Record
 named_inside (Some (mm.RegistrationRequest m)) w = kept_for m.identity w
 named_inside (Some (mm.ServiceRequest m)) w = kept_for m.identity w
 named_inside (Some (mm.DeregistrationRequestUeOriginating m)) w = kept_for m.identity w
 named_inside message w = None
 
-abbrev pub sender : ℕ → Option Mm → Work → Option Subscriber
-sender number message w = per (named_inside message w) (subscriber_of_link number w) (λ (s : Subscriber). Some s)
+abbrev pub sender : ℕ → Option Mm → Work → Option Record
+sender number message w = per (named_inside message w) (subscriber_of_link number w) (λ (s : Record). Some s)
 
 -- One that fails is discarded on a secure link. On any other a REGISTRATION REQUEST inside is taken as one that didn't pass, and a SERVICE
 -- REQUEST is rejected.
@@ -163,8 +163,8 @@ abbrev pub failed : ℕ → Option Mm → Work → Work
 failed number message w =
     when (link_of number w).secure then w else per message w (λ (m : Mm). failed_request number m w)
 
-abbrev pub check_of : Option Subscriber → ℕ → List ℕ → Option Passage
-check_of s number octets = per s None (λ (x : Subscriber). checked_in_use number octets x)
+abbrev pub check_of : Option Record → ℕ → List ℕ → Option Passage
+check_of s number octets = per s None (λ (x : Record). checked_in_use number octets x)
 
 abbrev pub integrity_protected_with : Option Mm → ℕ → List ℕ → Work → Work
 integrity_protected_with message number octets w =
@@ -179,15 +179,15 @@ ciphered number octets w =
     per (check_of (subscriber_of_link number w) number octets) w (λ (p : Passage). passing number p w)
 
 -- header type 4: under the context that was commanded on this link, then under the one in use
-abbrev pub ciphered_for : ℕ → List ℕ → Subscriber → Work → Work
+abbrev pub ciphered_for : ℕ → List ℕ → Record → Work → Work
 ciphered_for number octets s w = per (checked_in_use number octets s) w (λ (p : Passage). passing number p w)
 
-abbrev pub under_either : ℕ → List ℕ → Subscriber → Work → Work
+abbrev pub under_either : ℕ → List ℕ → Record → Work → Work
 under_either number octets s w =
     per (checked_pending number octets s) (ciphered_for number octets s w) (λ (p : Passage). passing number p w)
 
 unfoldable pub under_new_context : ℕ → List ℕ → Work → Work
-under_new_context number octets w = per (subscriber_of_link number w) w (λ (s : Subscriber). under_either number octets s w)
+under_new_context number octets w = per (subscriber_of_link number w) w (λ (s : Record). under_either number octets s w)
 
 -- 5GMM's extended protocol discriminator (clause 9.2), and the security header type
 abbrev pub is_mm : List ℕ → Bool

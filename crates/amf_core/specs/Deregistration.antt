@@ -12,17 +12,17 @@ use Rattle.amf_core.specs.declared.outs.SmfAsk.TheVariants.{ReleaseAll}
 use Rattle.amf_core.specs.declared.procedures.Deregistering.{Deregistering}
 use Rattle.amf_core.specs.declared.procedures.Procedure.{Procedure}
 use Rattle.amf_core.specs.declared.procedures.Procedure.TheVariants as procedures
-use Rattle.amf_core.specs.declared.subscriber.Subscriber.{Subscriber}
+use Rattle.amf_core.specs.declared.subscriber.Record.{Record}
 
 -- Not registered: whatever is open ends, and the sessions are released. The contexts and the kept 5G-GUTIs stay.
-abbrev pub unregistered : Subscriber → Subscriber
+abbrev pub unregistered : Record → Record
 unregistered s = record s { procedure = procedures.Idle; registered = false }
 
-unfoldable pub deregistered : Subscriber → Work → Work
+unfoldable pub deregistered : Record → Work → Work
 deregistered s w = ask ReleaseAll s (put (unregistered s) (stopped s w))
 
 -- DEREGISTRATION REQUEST of the handset, which passed; it is answered unless the handset is switched off
-unfoldable pub deregistration_requested : DeregistrationRequestUeOriginating → ℕ → Subscriber → Work → Work
+unfoldable pub deregistration_requested : DeregistrationRequestUeOriginating → ℕ → Record → Work → Work
 deregistration_requested m number s w =
     when m.switch_off then deregistered s w
     else say number (Ciphered s.supi) mm.DeregistrationAcceptUeOriginating (deregistered s w)
@@ -34,14 +34,14 @@ is_deregistering procedures.Idle = false
 is_deregistering (procedures.Challenging c) = false
 is_deregistering (procedures.Accepting a) = false
 
-unfoldable pub deregistration_accepted : ℕ → Subscriber → Work → Work
+unfoldable pub deregistration_accepted : ℕ → Record → Work → Work
 deregistration_accepted number s w = when is_deregistering s.procedure && is_on number s.link then deregistered s w else w
 
 -- DEREGISTRATION REQUEST of the network, without switch off and without a cause
-abbrev pub deregistration_sent : Subscriber → Work → Work
+abbrev pub deregistration_sent : Record → Work → Work
 deregistration_sent s w =
     say_on s.link (Ciphered s.supi) (mm.DeregistrationRequestUeTerminated (record { switch_off = false; cause = None })) w
 
-abbrev pub deregistration_put : Deregistering → Subscriber → Work → Work
+abbrev pub deregistration_put : Deregistering → Record → Work → Work
 deregistration_put d s w =
     start T3522 s (deregistration_sent s (put (record s { procedure = procedures.Deregistering d }) w))

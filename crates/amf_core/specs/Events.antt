@@ -18,7 +18,7 @@ use Rattle.amf_core.specs.declared.procedures.Deregistering.{Deregistering}
 use Rattle.amf_core.specs.declared.procedures.Procedure.{Procedure}
 use Rattle.amf_core.specs.declared.procedures.Procedure.TheVariants as procedures
 use Rattle.amf_core.specs.declared.procedures.Purpose.TheVariants.{Command}
-use Rattle.amf_core.specs.declared.subscriber.Subscriber.{Subscriber}
+use Rattle.amf_core.specs.declared.subscriber.Record.{Record}
 
 -- Each message is sent five times at most, at the fifth expiry its procedure ends (clauses 5.4.1.3.7, 5.4.2.7, 5.5.1.2.8 and 5.5.2.3.5).
 abbrev pub is_left : ℕ → Bool
@@ -28,7 +28,7 @@ is_left sendings = nat_lt sendings 5
 abbrev pub challenge_again : Challenging → Challenging
 challenge_again c = record c { sendings = c.sendings + 1 }
 
-abbrev pub challenging_expired : Challenging → Subscriber → Work → Work
+abbrev pub challenging_expired : Challenging → Record → Work → Work
 challenging_expired c s w =
     when is_left c.sendings then challenge_put (challenge_again c) (challenge_open (challenge_again c) s) w else put (idle s) w
 
@@ -36,41 +36,41 @@ challenging_expired c s w =
 abbrev pub acceptance_again : Accepting → Accepting
 acceptance_again a = record a { sendings = a.sendings + 1 }
 
-abbrev pub acceptance_resent : Accepting → Subscriber → Work → Work
+abbrev pub acceptance_resent : Accepting → Record → Work → Work
 acceptance_resent a s w = say_on s.link (Ciphered s.supi) (acceptance (config_of w) a s) w
 
-abbrev pub accepting_expired : Accepting → Subscriber → Work → Work
+abbrev pub accepting_expired : Accepting → Record → Work → Work
 accepting_expired a s w =
     when is_left a.sendings
     then start T3550 s (acceptance_resent (acceptance_again a) s (put (record s { procedure = procedures.Accepting (acceptance_again a) }) w))
     else put (idle s) w
 
 -- T3522: the same DEREGISTRATION REQUEST; at the end as if it had been accepted
-abbrev pub deregistering_expired : Deregistering → Subscriber → Work → Work
+abbrev pub deregistering_expired : Deregistering → Record → Work → Work
 deregistering_expired d s w =
     when is_left d.sendings then deregistration_put (record { sendings = d.sendings + 1 }) s w
     else ask ReleaseAll s (put (unregistered s) w)
 
 -- A timer whose procedure has ended finds no owner.
-abbrev pub of_challenge : Procedure → Subscriber → Work → Work
+abbrev pub of_challenge : Procedure → Record → Work → Work
 of_challenge (procedures.Challenging c) s w = challenging_expired c s w
 of_challenge procedures.Idle s w = w
 of_challenge (procedures.Accepting a) s w = w
 of_challenge (procedures.Deregistering d) s w = w
 
-abbrev pub of_acceptance : Procedure → Subscriber → Work → Work
+abbrev pub of_acceptance : Procedure → Record → Work → Work
 of_acceptance (procedures.Accepting a) s w = accepting_expired a s w
 of_acceptance procedures.Idle s w = w
 of_acceptance (procedures.Challenging c) s w = w
 of_acceptance (procedures.Deregistering d) s w = w
 
-abbrev pub of_deregistration : Procedure → Subscriber → Work → Work
+abbrev pub of_deregistration : Procedure → Record → Work → Work
 of_deregistration (procedures.Deregistering d) s w = deregistering_expired d s w
 of_deregistration procedures.Idle s w = w
 of_deregistration (procedures.Challenging c) s w = w
 of_deregistration (procedures.Accepting a) s w = w
 
-unfoldable pub expired_of : TimerId → Subscriber → Work → Work
+unfoldable pub expired_of : TimerId → Record → Work → Work
 expired_of T3560 s w = of_challenge s.procedure s w
 expired_of T3550 s w = of_acceptance s.procedure s w
 expired_of T3522 s w = of_deregistration s.procedure s w
@@ -86,21 +86,21 @@ expired_of (T3591 psi) s w = w
 expired_of (T3592 psi) s w = w
 
 -- what is done with the subscriber of a SUPI, nothing where it isn't kept
-abbrev pub of_supi : List ℕ → (Subscriber → Work → Work) → Work → Work
-of_supi supi row w = per (subscriber supi w) w (λ (s : Subscriber). row s w)
+abbrev pub of_supi : List ℕ → (Record → Work → Work) → Work → Work
+of_supi supi row w = per (subscriber supi w) w (λ (s : Record). row s w)
 
 unfoldable pub expired : List ℕ → TimerId → Work → Work
 expired supi id w = of_supi supi (expired_of id) w
 
 -- The SMF wants a security mode procedure: a challenge starts where no procedure is open.
-abbrev pub fenced_of : Subscriber → Work → Work
+abbrev pub fenced_of : Record → Work → Work
 fenced_of s w = when is_idle s.procedure then challenge Command s.link None s w else w
 
 unfoldable pub fenced : List ℕ → Work → Work
 fenced supi w = of_supi supi fenced_of w
 
 -- the SMF tells which sessions there are
-abbrev pub sessions_told_of : List Bool → Subscriber → Work → Work
+abbrev pub sessions_told_of : List Bool → Record → Work → Work
 sessions_told_of status s w = put (record s { status = status }) w
 
 unfoldable pub sessions_told : List ℕ → List Bool → Work → Work
@@ -112,7 +112,7 @@ carried_down supi psi frame w = of_supi supi (brought_down psi frame) w
 
 -- A link is lost: it is as if nothing had been exchanged on it. The subscriber that it last passed or challenged has no link by it any
 -- more, and no challenge on it; what else is open stays open.
-abbrev pub unlinked : ℕ → Subscriber → Subscriber
+abbrev pub unlinked : ℕ → Record → Record
 unlinked number s = record s { link = when is_on number s.link then None else s.link }
 
 abbrev pub is_challenged_on : ℕ → Procedure → Bool
@@ -121,7 +121,7 @@ is_challenged_on number procedures.Idle = false
 is_challenged_on number (procedures.Accepting a) = false
 is_challenged_on number (procedures.Deregistering d) = false
 
-abbrev pub link_lost_of : ℕ → Subscriber → Work → Work
+abbrev pub link_lost_of : ℕ → Record → Work → Work
 link_lost_of number s w =
     when is_challenged_on number s.procedure then ended (unlinked number s) w else put (unlinked number s) w
 

@@ -20,7 +20,7 @@ use Rattle.amf_core.specs.declared.procedures.Challenging.{Challenging}
 use Rattle.amf_core.specs.declared.procedures.Phase.TheVariants.{Mode}
 use Rattle.amf_core.specs.declared.procedures.Procedure.TheVariants as procedures
 use Rattle.amf_core.specs.declared.security_mode.Commanding.{Commanding}
-use Rattle.amf_core.specs.declared.subscriber.Subscriber.{Subscriber}
+use Rattle.amf_core.specs.declared.subscriber.Record.{Record}
 
 -- the AMF, whose contexts' counts the messages take, and what goes out
 pub record Framed : Type 0 where
@@ -43,7 +43,7 @@ framed_out out f = record f { outs = f.outs ++ out ∷ [] }
 abbrev pub sent : ℕ → List ℕ → Option Pass → Framed → Framed
 sent number octets pass f = framed_out (Send (record { link = number; fresh = false; octets = octets; pass = pass })) f
 
-abbrev pub counted : Subscriber → Framed → Framed
+abbrev pub counted : Record → Framed → Framed
 counted s f = record f { amf = with_subscriber s f.amf }
 
 -- a message whose frame would have more than 4,096 octets isn't sent
@@ -59,7 +59,7 @@ abbrev pub framed_plain : ℕ → List ℕ → Framed → Framed
 framed_plain number message f = when is_too_long message then f else sent number message None f
 
 -- a message whose context has no count left isn't sent
-abbrev pub pass_of : SecurityContext → Subscriber → Pass
+abbrev pub pass_of : SecurityContext → Record → Pass
 pass_of context s = record { supi = s.supi; challenge = context.challenge; count = context.down }
 
 abbrev pub counted_down : SecurityContext → SecurityContext
@@ -69,37 +69,37 @@ abbrev pub is_unsent : List ℕ → SecurityContext → Bool
 is_unsent message context = is_too_long message || context.down == 2 ^ 24
 
 -- header type 2, under the context in use; plain where the subscriber has none
-abbrev pub under_in_use : ℕ → List ℕ → SecurityContext → Subscriber → Framed → Framed
+abbrev pub under_in_use : ℕ → List ℕ → SecurityContext → Record → Framed → Framed
 under_in_use number message context s f =
     when is_unsent message context then f
     else sent number (frame context Down context.down 2 message) (Some (pass_of context s))
     (counted (record s { in_use = Some (counted_down context) }) f)
 
-abbrev pub ciphered_for : ℕ → List ℕ → Subscriber → Framed → Framed
+abbrev pub ciphered_for : ℕ → List ℕ → Record → Framed → Framed
 ciphered_for number message s f =
     per s.in_use (framed_plain number message f) (λ (context : SecurityContext). under_in_use number message context s f)
 
 unfoldable pub framed_ciphered : ℕ → List ℕ → List ℕ → Framed → Framed
 framed_ciphered number supi message f =
-    per (subscriber_in supi f.amf.subscribers) (framed_plain number message f) (λ (s : Subscriber). ciphered_for number message s f)
+    per (subscriber_in supi f.amf.subscribers) (framed_plain number message f) (λ (s : Record). ciphered_for number message s f)
 
 -- header type 3, under the context that is commanded
 abbrev pub counted_command : Commanding → Challenging
 counted_command o = record o.challenging { phase = Mode (counted_down o.context) }
 
-abbrev pub under_new : ℕ → List ℕ → Commanding → Subscriber → Framed → Framed
+abbrev pub under_new : ℕ → List ℕ → Commanding → Record → Framed → Framed
 under_new number message o s f =
     when is_unsent message o.context then f
     else sent number (frame o.context Down o.context.down 3 message) (Some (pass_of o.context s))
     (counted (record s { procedure = procedures.Challenging (counted_command o) }) f)
 
-abbrev pub commanded_for : ℕ → List ℕ → Subscriber → Framed → Framed
+abbrev pub commanded_for : ℕ → List ℕ → Record → Framed → Framed
 commanded_for number message s f =
     per (commanding_of s.procedure) f (λ (o : Commanding). under_new number message o s f)
 
 unfoldable pub framed_with_new_context : ℕ → List ℕ → List ℕ → Framed → Framed
 framed_with_new_context number supi message f =
-    per (subscriber_in supi f.amf.subscribers) f (λ (s : Subscriber). commanded_for number message s f)
+    per (subscriber_in supi f.amf.subscribers) f (λ (s : Record). commanded_for number message s f)
 
 unfoldable pub framed : Act → Framed → Framed
 framed (Tell out) f = framed_out out f

@@ -25,17 +25,17 @@ use Rattle.amf_core.specs.declared.procedures.Procedure.{Procedure}
 use Rattle.amf_core.specs.declared.procedures.Procedure.TheVariants as procedures
 use Rattle.amf_core.specs.declared.procedures.Purpose.{Purpose}
 use Rattle.amf_core.specs.declared.procedures.Purpose.TheVariants.{Registration, Command}
-use Rattle.amf_core.specs.declared.requests.Named.{Named}
-use Rattle.amf_core.specs.declared.requests.Named.TheVariants as named
+use Rattle.amf_core.specs.declared.requests.KeptIdentity.{KeptIdentity}
+use Rattle.amf_core.specs.declared.requests.KeptIdentity.TheVariants as named
 use Rattle.amf_core.specs.declared.requests.Request.{Request}
-use Rattle.amf_core.specs.declared.subscriber.Subscriber.{Subscriber}
+use Rattle.amf_core.specs.declared.subscriber.Record.{Record}
 
 -- A capability is enough where it has 128-NIA2, and 128-NEA2 or no ciphering.
 abbrev pub is_enough : List ℕ → Bool
 is_enough capability = has_ia 2 capability && (has_ea 2 capability || has_ea 0 capability)
 
 -- where the request tells none, the one that the subscriber told last counts
-abbrev pub counting_capability : Request → Subscriber → Option (List ℕ)
+abbrev pub counting_capability : Request → Record → Option (List ℕ)
 counting_capability r s = per r.capability s.capability (λ (capability : List ℕ). Some capability)
 
 -- a link, if there is one, is this one
@@ -74,13 +74,13 @@ accept config slices guti status = mm.RegistrationAccept (record {
   t3512 = Some config.t3512;
 })
 
-abbrev pub acceptance : Configured → Accepting → Subscriber → Mm
+abbrev pub acceptance : Configured → Accepting → Record → Mm
 acceptance config a s = accept config s.slices (Some a.guti) (Some a.status)
 
-abbrev pub accept_sent : Accepting → ℕ → Subscriber → Work → Work
+abbrev pub accept_sent : Accepting → ℕ → Record → Work → Work
 accept_sent a number s w = say number (Ciphered s.supi) (acceptance (config_of w) a s) w
 
-abbrev pub periodic_accepted : ℕ → Subscriber → Work → Work
+abbrev pub periodic_accepted : ℕ → Record → Work → Work
 periodic_accepted number s w = say number (Ciphered s.supi) (accept (config_of w) s.slices None None) w
 
 -- A periodic request is granted at once where it passed under a context of the subscriber that it names, who is registered.
@@ -90,12 +90,12 @@ is_periodic Initial = false
 is_periodic Mobility = false
 is_periodic Emergency = false
 
-abbrev pub is_granted : Option (List ℕ) → Request → Subscriber → Bool
+abbrev pub is_granted : Option (List ℕ) → Request → Record → Bool
 is_granted passed r s =
     is_periodic r.registration && (per passed false (λ (supi : List ℕ). bytes_eq supi s.supi) && s.registered)
 
 -- of a subscriber whose capability is enough, in the order of its cases
-unfoldable pub request_weighed : ℕ → Option (List ℕ) → Request → Subscriber → Work → Work
+unfoldable pub request_weighed : ℕ → Option (List ℕ) → Request → Record → Work → Work
 request_weighed number passed r s w =
     when is_running number r s.procedure then w
     else per (equal_acceptance r s.procedure)
@@ -104,10 +104,10 @@ request_weighed number passed r s w =
     (λ (a : Accepting). accept_sent a number s w)
 
 -- of a subscriber that is known
-abbrev pub is_capable : Request → Subscriber → Bool
+abbrev pub is_capable : Request → Record → Bool
 is_capable r s = per (counting_capability r s) false is_enough
 
-unfoldable pub requested : ℕ → Option (List ℕ) → Request → Subscriber → Work → Work
+unfoldable pub requested : ℕ → Option (List ℕ) → Request → Record → Work → Work
 requested number passed r s w =
     when is_capable r s then request_weighed number passed r s w else reject number cause.UE_SECURITY_CAPABILITIES_MISMATCH w
 
@@ -120,14 +120,14 @@ identity_wanted number r w =
     answer number (mm.IdentityRequest (record { identity_type = suci_type })) (put_link (record (link_of number w) { waiting = Some r }) w)
 
 -- by the identity: a SUCI of no subscriber is rejected, one that isn't read or a 5G-S-TMSI too; a 5G-GUTI that isn't kept is asked about
-abbrev pub request_by_suci : ℕ → Option (List ℕ) → Request → Option Subscriber → Work → Work
-request_by_suci number passed r s w = per s (reject number cause.ILLEGAL_UE w) (λ (x : Subscriber). requested number passed r x w)
+abbrev pub request_by_suci : ℕ → Option (List ℕ) → Request → Option Record → Work → Work
+request_by_suci number passed r s w = per s (reject number cause.ILLEGAL_UE w) (λ (x : Record). requested number passed r x w)
 
-abbrev pub request_by_guti : ℕ → Option (List ℕ) → Request → Option Subscriber → Work → Work
-request_by_guti number passed r s w = per s (identity_wanted number r w) (λ (x : Subscriber). requested number passed r x w)
+abbrev pub request_by_guti : ℕ → Option (List ℕ) → Request → Option Record → Work → Work
+request_by_guti number passed r s w = per s (identity_wanted number r w) (λ (x : Record). requested number passed r x w)
 
 -- what is kept of it, beside who sent it
-abbrev pub kept : RegistrationRequest → Named → Request
+abbrev pub kept : RegistrationRequest → KeptIdentity → Request
 kept m identity = record { registration = m.registration; ksi = m.ksi; identity = identity; capability = m.capability; status = m.status }
 
 abbrev pub request_by_identity : Identity → RegistrationRequest → ℕ → Option (List ℕ) → Work → Work

@@ -27,7 +27,7 @@ use Rattle.amf_core.specs.declared.procedures.Procedure.TheVariants as procedure
 use Rattle.amf_core.specs.declared.procedures.Purpose.{Purpose}
 use Rattle.amf_core.specs.declared.procedures.Purpose.TheVariants.{Registration, Command}
 use Rattle.amf_core.specs.declared.security_mode.Commanding.{Commanding}
-use Rattle.amf_core.specs.declared.subscriber.Subscriber.{Subscriber}
+use Rattle.amf_core.specs.declared.subscriber.Record.{Record}
 
 -- The challenge whose context waits for the answer to its SECURITY MODE COMMAND.
 abbrev pub commanding_in : Phase → Challenging → Option Commanding
@@ -46,7 +46,7 @@ commanding_on number procedure =
     per (commanding_of procedure) None (λ (o : Commanding). when is_on number o.challenging.link then Some o else None)
 
 -- SECURITY MODE REJECT ends the challenge.
-unfoldable pub mode_rejected : ℕ → Subscriber → Work → Work
+unfoldable pub mode_rejected : ℕ → Record → Work → Work
 mode_rejected number s w = per (commanding_on number s.procedure) w (λ (o : Commanding). ended s w)
 
 -- The whole request is taken where it is a REGISTRATION REQUEST that names this subscriber by its SUCI, or any 5G-GUTI. Its kind, its
@@ -54,33 +54,33 @@ mode_rejected number s w = per (commanding_on number s.procedure) w (λ (o : Com
 abbrev pub whole_with : Option Guti → RegistrationRequest → Whole
 whole_with guti m = record { registration = m.registration; guti = guti; status = m.status }
 
-abbrev pub whole_by : Identity → RegistrationRequest → Subscriber → Option Whole
+abbrev pub whole_by : Identity → RegistrationRequest → Record → Option Whole
 whole_by (identities.Guti g) m s = Some (whole_with (Some g) m)
 whole_by (identities.Suci x) m s = when bytes_eq s.supi (suci_digits x) then Some (whole_with None m) else None
 whole_by (identities.Stmsi t) m s = None
 whole_by (identities.Other octets) m s = None
 
-abbrev pub whole_of : Result Mm MmRefusal → Subscriber → Option Whole
+abbrev pub whole_of : Result Mm MmRefusal → Record → Option Whole
 whole_of (Ok (mm.RegistrationRequest m)) s = whole_by m.identity m s
 whole_of read s = None
 
-abbrev pub whole_in : Option (List ℕ) → Subscriber → Option Whole
+abbrev pub whole_in : Option (List ℕ) → Record → Option Whole
 whole_in message s = per message None (λ (octets : List ℕ). whole_of (mm_in octets) s)
 
-abbrev pub goes_on : Purpose → Option Whole → ℕ → SecurityContext → Subscriber → Work → Work
+abbrev pub goes_on : Purpose → Option Whole → ℕ → SecurityContext → Record → Work → Work
 goes_on (Registration r) whole number context s w = per whole w (λ (q : Whole). registration_goes_on number r q context s w)
 goes_on Command whole number context s w = w
 
 -- SECURITY MODE COMPLETE under the context that was commanded: it is in use from now on, and the SMF is told so.
-abbrev pub in_use : SecurityContext → Subscriber → Subscriber
+abbrev pub in_use : SecurityContext → Record → Record
 in_use context s = record s { procedure = procedures.Idle; in_use = Some context }
 
-abbrev pub switched : Commanding → Subscriber → Work → Work
+abbrev pub switched : Commanding → Record → Work → Work
 switched o s w = ask Switched s (put (in_use o.context s) (stopped s w))
 
-abbrev pub completed : SecurityModeComplete → ℕ → Commanding → Subscriber → Work → Work
+abbrev pub completed : SecurityModeComplete → ℕ → Commanding → Record → Work → Work
 completed m number o s w =
     goes_on o.challenging.purpose (whole_in m.message s) number o.context (in_use o.context s) (switched o s w)
 
-unfoldable pub mode_completed : SecurityModeComplete → ℕ → Subscriber → Work → Work
+unfoldable pub mode_completed : SecurityModeComplete → ℕ → Record → Work → Work
 mode_completed m number s w = per (commanding_of s.procedure) w (λ (o : Commanding). completed m number o s w)

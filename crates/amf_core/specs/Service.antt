@@ -6,7 +6,7 @@ use Rattle.mm_messages.specs.declared.message.Mm.{Mm}
 use Rattle.mm_messages.specs.declared.message.Mm.TheVariants as mm
 use Rattle.amf_core.specs.Work.{Work, answer, answer_for, say}
 use Rattle.amf_core.specs.declared.acts.Protection.TheVariants.{Ciphered}
-use Rattle.amf_core.specs.declared.subscriber.Subscriber.{Subscriber}
+use Rattle.amf_core.specs.declared.subscriber.Record.{Record}
 
 -- SERVICE ACCEPT and SERVICE REJECT tell no sessions.
 abbrev pub service_accept : Mm
@@ -16,7 +16,7 @@ abbrev pub service_reject : ℕ → Mm
 service_reject n = mm.ServiceReject (record { cause = n; status = None })
 
 -- one that passed: granted to who is registered, else rejected
-unfoldable pub service_requested : ℕ → Subscriber → Work → Work
+unfoldable pub service_requested : ℕ → Record → Work → Work
 service_requested number s w =
     when s.registered then say number (Ciphered s.supi) service_accept w
     else answer_for s number (service_reject cause.IMPLICITLY_DEREGISTERED) w

@@ -17,14 +17,14 @@ use Rattle.amf_core.specs.declared.procedures.Procedure.{Procedure}
 use Rattle.amf_core.specs.declared.procedures.Procedure.TheVariants as procedures
 use Rattle.amf_core.specs.declared.procedures.Purpose.{Purpose}
 use Rattle.amf_core.specs.declared.procedures.Purpose.TheVariants as purposes
-use Rattle.amf_core.specs.declared.subscriber.Subscriber.{Subscriber}
+use Rattle.amf_core.specs.declared.subscriber.Record.{Record}
 use Rattle.amf_core.specs.declared.view.NetView.{NetView}
 
 -- what was configured, the next 5G-TMSI, the records of the subscribers in the order of the configuration, and those of the links
 pub record AmfState : Type 0 where
   pub config : Configured
   pub tmsi : ℕ
-  pub subscribers : List Subscriber
+  pub subscribers : List Record
   pub links : List Link
 
 -- The word of a subscriber. A challenge for a registration, and an acceptance that isn't confirmed, are common procedures.
@@ -42,11 +42,11 @@ procedure_word (procedures.Challenging c) registered = challenged_word c.purpose
 procedure_word (procedures.Accepting a) registered = words.Common
 procedure_word (procedures.Deregistering d) registered = words.Deregistering
 
-abbrev pub word_of : Subscriber → AmfWord
+abbrev pub word_of : Record → AmfWord
 word_of s = procedure_word s.procedure s.registered
 
 -- a subscriber of whom nothing is known yet
-abbrev pub unknown_yet : AmfSubscriber → Subscriber
+abbrev pub unknown_yet : AmfSubscriber → Record
 unknown_yet c = record {
   supi = c.supi;
   slices = c.slices;
@@ -81,10 +81,10 @@ first b = record {
 }
 
 -- the subscriber of a SUPI
-abbrev pub has_supi : List ℕ → Subscriber → Bool
+abbrev pub has_supi : List ℕ → Record → Bool
 has_supi supi s = bytes_eq s.supi supi
 
-abbrev pub subscriber_in : List ℕ → List Subscriber → Option Subscriber
+abbrev pub subscriber_in : List ℕ → List Record → Option Record
 subscriber_in supi subscribers = found (has_supi supi) subscribers
 
 -- the record of a link; two records with the same key are of the same subscriber, or of the same link
@@ -94,14 +94,14 @@ has_number number l = l.number == number
 abbrev pub link_in : ℕ → List Link → Link
 link_in number links = per (found (has_number number) links) (unused number) (λ (l : Link). l)
 
-abbrev pub is_same_subscriber : Subscriber → Subscriber → Bool
+abbrev pub is_same_subscriber : Record → Record → Bool
 is_same_subscriber s x = bytes_eq x.supi s.supi
 
 abbrev pub is_same_link : Link → Link → Bool
 is_same_link l x = x.number == l.number
 
 -- a record in the place of that of its subscriber, one in the place of that of its link, and the next 5G-TMSI taken
-abbrev pub with_subscriber : Subscriber → AmfState → AmfState
+abbrev pub with_subscriber : Record → AmfState → AmfState
 with_subscriber s a = record a { subscribers = put_in is_same_subscriber s a.subscribers }
 
 abbrev pub with_link : Link → AmfState → AmfState
@@ -122,7 +122,7 @@ pending_of (procedures.Accepting a) = None
 pending_of (procedures.Deregistering d) = None
 
 -- what can be seen of a subscriber
-abbrev pub view_of : Subscriber → NetView
+abbrev pub view_of : Record → NetView
 view_of s = record {
   state = word_of s;
   registered = s.registered;
@@ -132,7 +132,7 @@ view_of s = record {
   completed = s.completed;
 }
 
-abbrev pub viewed : Option Subscriber → Option NetView
+abbrev pub viewed : Option Record → Option NetView
 viewed s = option_map view_of s
 
 abbrev pub view_in : List ℕ → AmfState → Option NetView

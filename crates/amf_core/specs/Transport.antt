@@ -9,7 +9,7 @@ use Rattle.mm_messages.specs.declared.transport.UlNasTransport.{UlNasTransport}
 use Rattle.amf_core.specs.Work.{Work, ask, say, say_on}
 use Rattle.amf_core.specs.declared.acts.Protection.TheVariants.{Ciphered}
 use Rattle.amf_core.specs.declared.outs.SmfAsk.TheVariants.{Frame}
-use Rattle.amf_core.specs.declared.subscriber.Subscriber.{Subscriber}
+use Rattle.amf_core.specs.declared.subscriber.Record.{Record}
 
 -- payload container type 1: N1 SM information (clause 9.11.3.40)
 abbrev pub n1_sm : ℕ
@@ -21,7 +21,7 @@ session_of container_type psi =
     when container_type == n1_sm then per psi None psi_from else None
 
 -- UL NAS TRANSPORT: a 5GSM message of a session goes to the SMF. Anything else goes back.
-abbrev pub not_forwarded : UlNasTransport → ℕ → Subscriber → Work → Work
+abbrev pub not_forwarded : UlNasTransport → ℕ → Record → Work → Work
 not_forwarded m number s w = say number (Ciphered s.supi) (mm.DlNasTransport (record {
   container_type = m.container_type;
   container = m.container;
@@ -29,12 +29,12 @@ not_forwarded m number s w = say number (Ciphered s.supi) (mm.DlNasTransport (re
   cause = Some cause.PAYLOAD_WAS_NOT_FORWARDED;
 })) w
 
-unfoldable pub transported : UlNasTransport → ℕ → Challenge → Subscriber → Work → Work
+unfoldable pub transported : UlNasTransport → ℕ → Challenge → Record → Work → Work
 transported m number challenge s w =
     per (session_of m.container_type m.psi) (not_forwarded m number s w)
     (λ (psi : ℕ). ask (Frame psi challenge m.dnn m.slice m.container) s w)
 
 -- DL NAS TRANSPORT with a 5GSM message of the SMF
-unfoldable pub brought_down : ℕ → List ℕ → Subscriber → Work → Work
+unfoldable pub brought_down : ℕ → List ℕ → Record → Work → Work
 brought_down psi frame s w =
     say_on s.link (Ciphered s.supi) (mm.DlNasTransport (record { container_type = n1_sm; container = frame; psi = Some psi; cause = None })) w

@@ -17,7 +17,7 @@ use Rattle.amf_core.specs.declared.link.Link.{Link}
 use Rattle.amf_core.specs.declared.outs.AmfOut.{AmfOut}
 use Rattle.amf_core.specs.declared.outs.AmfOut.TheVariants.{Smf, Start, Stop}
 use Rattle.amf_core.specs.declared.outs.SmfAsk.{SmfAsk}
-use Rattle.amf_core.specs.declared.subscriber.Subscriber.{Subscriber}
+use Rattle.amf_core.specs.declared.subscriber.Record.{Record}
 
 -- the moment and the random octets that the step was given, what is kept by now, and what was said so far
 pub record Work : Type 0 where
@@ -36,10 +36,10 @@ abbrev pub by : (Work → Work) → Working → Working
 by row w = record w { work = row w.work }
 
 -- the record of a subscriber, and another in its place
-abbrev pub subscriber : List ℕ → Work → Option Subscriber
+abbrev pub subscriber : List ℕ → Work → Option Record
 subscriber supi w = subscriber_in supi w.amf.subscribers
 
-unfoldable pub put : Subscriber → Work → Work
+unfoldable pub put : Record → Work → Work
 put s w = record w { amf = with_subscriber s w.amf }
 
 -- the record of a link, and another in its place
@@ -54,7 +54,7 @@ abbrev pub put_home : List HomeRecord → Work → Work
 put_home home w = record w { home = home }
 
 -- the subscriber that a link last passed or challenged
-abbrev pub subscriber_of_link : ℕ → Work → Option Subscriber
+abbrev pub subscriber_of_link : ℕ → Work → Option Record
 subscriber_of_link number w = per (link_of number w).supi None (λ (supi : List ℕ). subscriber supi w)
 
 -- somebody is told something; a message is to be sent on a link, if there is one
@@ -87,7 +87,7 @@ abbrev pub reject : ℕ → ℕ → Work → Work
 reject number cause w = answer number (mm.RegistrationReject (record { cause = cause })) w
 
 -- one that belongs to the procedure of a subscriber
-abbrev pub answer_for : Subscriber → ℕ → Mm → Work → Work
+abbrev pub answer_for : Record → ℕ → Mm → Work → Work
 answer_for s number message w = say number (by_link (link_of number w) s.supi) message w
 
 -- what was configured
@@ -95,12 +95,12 @@ abbrev pub config_of : Work → Configured
 config_of w = w.amf.config
 
 -- a timer of a subscriber is started for its duration, or stopped
-abbrev pub start : TimerId → Subscriber → Work → Work
+abbrev pub start : TimerId → Record → Work → Work
 start id s w = tell (Start s.supi id (deadline_after w.moment (duration_of id (config_of w).durations))) w
 
-abbrev pub stop : TimerId → Subscriber → Work → Work
+abbrev pub stop : TimerId → Record → Work → Work
 stop id s w = tell (Stop s.supi id) w
 
 -- the SMF is asked something of a subscriber
-abbrev pub ask : SmfAsk → Subscriber → Work → Work
+abbrev pub ask : SmfAsk → Record → Work → Work
 ask call s w = tell (Smf (record { supi = s.supi; call = call })) w

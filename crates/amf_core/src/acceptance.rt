@@ -5,7 +5,7 @@ ghost use Rattle.amf_core.specs.Acceptance.{acceptance_ended, acceptance_put, co
 
 use crate::subscriber::copied_offer;
 use crate::work::Work;
-use crate::{Accepting, Configured, Gutis, Offer, Procedure, Request, SmfAsk, Subscriber};
+use crate::{Accepting, Configured, Gutis, Offer, Procedure, Record, Request, SmfAsk};
 use mm_messages::{Mm, RegistrationReject, RegistrationType};
 use nas_base::Memory;
 use nas_base::mm_cause::PROTOCOL_ERROR_UNSPECIFIED;
@@ -37,7 +37,7 @@ fn is_initial(registration: RegistrationType) -> bool
 
 // The sessions that the handset is told.
 #[tactic(auto, unfolding(nas_base::specs::Branches::chosen, nas_base::specs::Branches::per))]
-fn told_sessions(whole: &Whole, s: &Subscriber) -> Status
+fn told_sessions(whole: &Whole, s: &Record) -> Status
     ensures { result ≡ told_sessions whole.now s.now }
 {
     if is_initial(whole.registration) {
@@ -77,12 +77,12 @@ fn opened_acceptance(
     accepting: &Accepting,
     named: &Option<Guti>,
     challenge: Challenge,
-    s: Subscriber,
-) -> Subscriber
+    s: Record,
+) -> Record
     ensures { result ≡ opened_acceptance accepting.now named.now challenge s }
 {
     let kept = kept_with(named, &accepting.guti, &s.kept);
-    Subscriber {
+    Record {
         procedure: Procedure::Accepting(accepting.copy()),
         kept,
         offered: Some(Offer {
@@ -96,10 +96,10 @@ fn opened_acceptance(
 }
 
 // A subscriber whose 5G-GUTI is confirmed.
-fn confirmed(guti: &Guti, s: Subscriber) -> Subscriber
+fn confirmed(guti: &Guti, s: Record) -> Record
     ensures { result ≡ confirmed guti.now s }
 {
-    Subscriber {
+    Record {
         kept: Gutis::from_one(guti.copy()),
         completed: true,
         ..s
@@ -109,7 +109,7 @@ fn confirmed(guti: &Guti, s: Subscriber) -> Subscriber
 impl<'a> Work<'a> {
     // The sessions that the registration leaves are kept, all others released.
     #[tactic(auto, unfolding(nas_base::specs::Branches::chosen, nas_base::specs::Branches::per))]
-    fn release(&mut self, whole: &Whole, s: &Subscriber) -> Result<(), Memory>
+    fn release(&mut self, whole: &Whole, s: &Record) -> Result<(), Memory>
         ensures { OnOk result (self.new ≡ by (released whole.now s.now) self.old) }
     {
         if is_initial(whole.registration) {
@@ -126,7 +126,7 @@ impl<'a> Work<'a> {
         &mut self,
         number: u16,
         accepting: &Accepting,
-        s: Subscriber,
+        s: Record,
     ) -> Result<(), Memory>
         ensures { OnOk result (self.new ≡ by (acceptance_put number accepting.now s) self.old) }
     {
@@ -154,7 +154,7 @@ impl<'a> Work<'a> {
         request: &Request,
         whole: &Whole,
         challenge: Challenge,
-        s: Subscriber,
+        s: Record,
     ) -> Result<(), Memory>
         requires { self.old.work.amf.tmsi < 2 ^ 32 }
         ensures { OnOk result (self.new ≡ by (offered number request.now whole.now challenge s) self.old) }
@@ -178,7 +178,7 @@ impl<'a> Work<'a> {
         request: &Request,
         whole: &Whole,
         challenge: Challenge,
-        s: Subscriber,
+        s: Record,
     ) -> Result<(), Memory>
         ensures { OnOk result (self.new ≡ by (registration_granted number request.now whole.now challenge s) self.old) }
     {
@@ -202,7 +202,7 @@ impl<'a> Work<'a> {
         request: &Request,
         whole: &Whole,
         context: &Context,
-        s: Subscriber,
+        s: Record,
     ) -> Result<(), Memory>
         ensures { OnOk result (self.new ≡ by (registration_goes_on number request.now whole.now context.now s) self.old) }
     {
@@ -211,7 +211,7 @@ impl<'a> Work<'a> {
     }
 
     // The acceptance ends, if it is still open.
-    fn end_acceptance(&mut self, s: Subscriber) -> Result<(), Memory>
+    fn end_acceptance(&mut self, s: Record) -> Result<(), Memory>
         ensures { OnOk result (self.new ≡ by (acceptance_ended s.procedure s) self.old) }
     {
         match &s.procedure {
@@ -224,11 +224,7 @@ impl<'a> Work<'a> {
 
     /// REGISTRATION COMPLETE under the context of this challenge.
     #[tactic(auto, unfolding(crate::specs::Acceptance::registration_completed, nas_base::specs::Branches::chosen, nas_base::specs::Branches::per))]
-    pub fn registration_completed(
-        &mut self,
-        challenge: &Challenge,
-        s: Subscriber,
-    ) -> Result<(), Memory>
+    pub fn registration_completed(&mut self, challenge: &Challenge, s: Record) -> Result<(), Memory>
         ensures { OnOk result (self.new ≡ by (registration_completed challenge.now s) self.old) }
     {
         let Some(offer) = copied_offer(&s.offered) else {

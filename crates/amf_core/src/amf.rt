@@ -6,7 +6,7 @@ ghost use Rattle.amf_core.specs.Keyed.{all_current, current, newest};
 ghost use Rattle.amf_core.specs.State.{is_same_link, is_same_subscriber};
 
 use crate::changes::Changes;
-use crate::{AmfConfig, AmfSubscriber, Configured, Link, NetView, Subscriber};
+use crate::{AmfConfig, AmfSubscriber, Configured, Link, NetView, Record};
 use nas_base::{Memory, Supi};
 use std::alloc::Global;
 use std::marker::Model;
@@ -19,7 +19,7 @@ const LINKS: u16 = 64;
 pub struct Amf {
     pub(crate) config: Configured,
     pub(crate) tmsi: u64,
-    pub(crate) subscribers: Vec<Subscriber>,
+    pub(crate) subscribers: Vec<Record>,
     pub(crate) links: Vec<Link>,
 }
 
@@ -95,7 +95,7 @@ impl Amf {
 }
 
 /// The newest of these records that is of the same subscriber.
-pub fn newest_subscriber<'a>(changed: &'a [Subscriber], kept: &Subscriber) -> Option<&'a Subscriber>
+pub fn newest_subscriber<'a>(changed: &'a [Record], kept: &Record) -> Option<&'a Record>
     ensures { option_map (λ s. s.now) result ≡ newest is_same_subscriber changed.now kept.now }
 {
     for record in changed {
@@ -119,7 +119,7 @@ pub fn newest_link<'a>(changed: &'a [Link], kept: &Link) -> Option<&'a Link>
 }
 
 // A record becomes what it is by now. One that didn't change isn't copied.
-fn take_subscriber(record: &mut Subscriber, changed: &[Subscriber])
+fn take_subscriber(record: &mut Record, changed: &[Record])
     ensures { record.new ≡ current is_same_subscriber changed.now record.old }
 {
     if let Some(by_now) = newest_subscriber(changed, record) {
@@ -138,7 +138,7 @@ fn take_link(record: &mut Link, changed: &[Link])
 
 // Each record becomes what it is by now.
 #[tactic(auto, using(crate::proofs::Taking::taken_step))]
-fn take_subscribers(records: &mut [Subscriber], changed: &[Subscriber])
+fn take_subscribers(records: &mut [Record], changed: &[Record])
     ensures { records.new ≡ all_current is_same_subscriber changed.now records.old }
 {
     for record in records.iter_mut() {
@@ -157,7 +157,7 @@ fn take_links(records: &mut [Link], changed: &[Link])
 }
 
 // The record of a SUPI, if there is one.
-fn record_of<'a>(records: &'a [Subscriber], supi: &[u8]) -> Option<&'a Subscriber>
+fn record_of<'a>(records: &'a [Record], supi: &[u8]) -> Option<&'a Record>
     ensures { option_map (λ s. s.now) result ≡ subscriber_in supi.now records.now }
 {
     for record in records {
@@ -169,12 +169,12 @@ fn record_of<'a>(records: &'a [Subscriber], supi: &[u8]) -> Option<&'a Subscribe
 }
 
 // The records of subscribers of whom nothing is known yet.
-fn subscribers_of(alloc: Global, configured: &[AmfSubscriber]) -> Result<Vec<Subscriber>, Memory>
+fn subscribers_of(alloc: Global, configured: &[AmfSubscriber]) -> Result<Vec<Record>, Memory>
     ensures { IfOk result (λ records. records.items ≡ map unknown_yet configured.now) }
 {
     let mut records = Vec::new(alloc);
     for subscriber in configured {
-        if records.push(Subscriber::unknown_yet(subscriber)).is_err() {
+        if records.push(Record::unknown_yet(subscriber)).is_err() {
             return Err(Memory);
         }
     }
@@ -196,7 +196,7 @@ fn unused_links(alloc: Global) -> Result<Vec<Link>, Memory>
 }
 
 // Equal records of subscribers.
-fn copied_subscribers(alloc: Global, from: &[Subscriber]) -> Result<Vec<Subscriber>, Memory>
+fn copied_subscribers(alloc: Global, from: &[Record]) -> Result<Vec<Record>, Memory>
     ensures { IfOk result (λ records. records.items ≡ from.now) }
 {
     let mut records = Vec::new(alloc);

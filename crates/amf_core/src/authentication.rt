@@ -6,7 +6,7 @@ ghost use Rattle.amf_core.specs.Work.{by};
 use crate::challenges::challenge_open;
 use crate::registration::is_on;
 use crate::work::Work;
-use crate::{Authentication, Challenging, Phase, Procedure, Purpose, Subscriber};
+use crate::{Authentication, Challenging, Phase, Procedure, Purpose, Record};
 use key_chain::nas_keys;
 use mm_messages::{AuthenticationFailure, AuthenticationResponse, Mm};
 use nas_base::Memory;
@@ -86,7 +86,7 @@ fn is_expected(res_star: &Option<[u8; 16]>, auth: &Authentication) -> bool
 }
 
 // The link of a challenge that takes the place of another.
-fn next_link(challenging: &Challenging, s: &Subscriber) -> Option<u16>
+fn next_link(challenging: &Challenging, s: &Record) -> Option<u16>
     ensures { result ≡ next_link challenging.now.purpose challenging.now s.now }
 {
     match challenging.purpose {
@@ -97,7 +97,7 @@ fn next_link(challenging: &Challenging, s: &Subscriber) -> Option<u16>
 
 impl<'a> Work<'a> {
     // The context is commanded.
-    fn command_mode(&mut self, asking: &Asking, s: Subscriber) -> Result<(), Memory>
+    fn command_mode(&mut self, asking: &Asking, s: Record) -> Result<(), Memory>
         ensures { OnOk result (self.new ≡ by (mode_commanded asking.now s) self.old) }
     {
         let challenging = commanding(asking);
@@ -106,7 +106,7 @@ impl<'a> Work<'a> {
     }
 
     // AUTHENTICATION REJECT; the challenge ends.
-    fn reject_authentication(&mut self, number: u16, s: Subscriber) -> Result<(), Memory>
+    fn reject_authentication(&mut self, number: u16, s: Record) -> Result<(), Memory>
         ensures { OnOk result (self.new ≡ by (authentication_rejected number s) self.old) }
     {
         self.end_open(s.copy())?;
@@ -120,7 +120,7 @@ impl<'a> Work<'a> {
         response: &AuthenticationResponse,
         number: u16,
         asking: &Asking,
-        s: Subscriber,
+        s: Record,
     ) -> Result<(), Memory>
         ensures { OnOk result (self.new ≡ by (answered response.now number asking.now s) self.old) }
     {
@@ -136,7 +136,7 @@ impl<'a> Work<'a> {
         &mut self,
         response: &AuthenticationResponse,
         number: u16,
-        s: Subscriber,
+        s: Record,
     ) -> Result<(), Memory>
         ensures { OnOk result (self.new ≡ by (responded response.now number s) self.old) }
     {
@@ -151,7 +151,7 @@ impl<'a> Work<'a> {
         &mut self,
         alloc: Global,
         challenging: &Challenging,
-        s: Subscriber,
+        s: Record,
     ) -> Result<(), Memory>
         ensures { OnOk result (self.new ≡ by (challenged_again challenging.now s) self.old) }
     {
@@ -166,7 +166,7 @@ impl<'a> Work<'a> {
         alloc: Global,
         auts: &[u8; 14],
         asking: &Asking,
-        s: Subscriber,
+        s: Record,
     ) -> Result<(), Memory>
         ensures { OnOk result (self.new ≡ by (resynchronised auts.now asking.now s) self.old) }
     {
@@ -185,7 +185,7 @@ impl<'a> Work<'a> {
         failure: &AuthenticationFailure,
         number: u16,
         asking: &Asking,
-        s: Subscriber,
+        s: Record,
     ) -> Result<(), Memory>
         ensures { OnOk result (self.new ≡ by (failed_by failure.now number asking.now s) self.old) }
     {
@@ -209,7 +209,7 @@ impl<'a> Work<'a> {
         alloc: Global,
         failure: &AuthenticationFailure,
         number: u16,
-        s: Subscriber,
+        s: Record,
     ) -> Result<(), Memory>
         ensures { OnOk result (self.new ≡ by (authentication_failed failure.now number s) self.old) }
     {

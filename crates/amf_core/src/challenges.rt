@@ -5,7 +5,7 @@ ghost use Rattle.amf_core.specs.Work.{by};
 
 use crate::acts::Protection;
 use crate::work::Work;
-use crate::{Authentication, Challenging, Configured, Phase, Procedure, Purpose, Subscriber};
+use crate::{Authentication, Challenging, Configured, Phase, Procedure, Purpose, Record};
 use key_chain::{ABBA, challenge_kamf, res_star};
 use milenage::{HomeRefusal, Vector};
 use mm_messages::{AuthenticationRequest, Mm, SecurityModeCommand};
@@ -22,7 +22,7 @@ const WHOLE_MESSAGE: Asi = Asi(2);
 
 // Whether a new context can't have this number.
 #[tactic(auto, unfolding(nas_base::specs::Branches::per))]
-fn is_ksi_taken(ksi: u8, s: &Subscriber) -> bool
+fn is_ksi_taken(ksi: u8, s: &Record) -> bool
     ensures { result ≡ is_ksi_taken ksi s.now }
 {
     let in_use = match &s.in_use {
@@ -38,7 +38,7 @@ fn is_ksi_taken(ksi: u8, s: &Subscriber) -> bool
 
 // The least number that a new context can have. Two are taken at most.
 #[tactic(auto, unfolding(crate::specs::Challenges::new_ksi))]
-fn new_ksi(s: &Subscriber) -> Ksi
+fn new_ksi(s: &Record) -> Ksi
     ensures { result ≡ new_ksi s.now }
 {
     if !is_ksi_taken(0, s) {
@@ -52,7 +52,7 @@ fn new_ksi(s: &Subscriber) -> Ksi
 
 // The capability that a subscriber told last, or none at all.
 #[tactic(auto, unfolding(nas_base::specs::Branches::per))]
-fn capability_of(s: &Subscriber) -> Capability
+fn capability_of(s: &Record) -> Capability
     ensures { result ≡ capability_of s.now }
 {
     match &s.capability {
@@ -80,7 +80,7 @@ fn kamf_of(config: &Configured, supi: &Supi, v: &Vector) -> [u8; 32]
 }
 
 // What the answer to a vector is compared with, and what comes of it.
-fn authentication(config: &Configured, v: &Vector, s: &Subscriber) -> Authentication
+fn authentication(config: &Configured, v: &Vector, s: &Record) -> Authentication
     requires { v.now.sqn < 2 ^ 48 }
     ensures { result ≡ authentication config.now v.now s.now }
 {
@@ -123,7 +123,7 @@ fn authentication_request(auth: &Authentication) -> AuthenticationRequest
 fn security_mode_command(
     context: &Context,
     challenging: &Challenging,
-    s: &Subscriber,
+    s: &Record,
 ) -> SecurityModeCommand
     ensures { result ≡ security_mode_command context.now challenging.now s.now }
 {
@@ -136,20 +136,20 @@ fn security_mode_command(
 }
 
 /// A subscriber with a challenge.
-pub fn challenge_open(challenging: &Challenging, s: Subscriber) -> Subscriber
+pub fn challenge_open(challenging: &Challenging, s: Record) -> Record
     ensures { result ≡ challenge_open challenging.now s }
 {
-    Subscriber {
+    Record {
         procedure: Procedure::Challenging(challenging.copy()),
         ..s
     }
 }
 
 /// A subscriber without a procedure.
-pub fn idle(s: Subscriber) -> Subscriber
+pub fn idle(s: Record) -> Record
     ensures { result ≡ idle s }
 {
-    Subscriber {
+    Record {
         procedure: Procedure::Idle,
         ..s
     }
@@ -157,11 +157,11 @@ pub fn idle(s: Subscriber) -> Subscriber
 
 // A subscriber with the capability that it tells, if it does.
 #[tactic(auto, unfolding(nas_base::specs::Branches::per))]
-fn told(capability: Option<Capability>, s: Subscriber) -> Subscriber
+fn told(capability: Option<Capability>, s: Record) -> Record
     ensures { result ≡ told capability s }
 {
     match capability {
-        Some(capability) => Subscriber {
+        Some(capability) => Record {
             capability: Some(capability),
             ..s
         },
@@ -172,7 +172,7 @@ fn told(capability: Option<Capability>, s: Subscriber) -> Subscriber
 impl<'a> Work<'a> {
     /// The timer of what is open is stopped.
     #[tactic(auto, unfolding(crate::specs::Challenges::stopped))]
-    pub fn stop_open(&mut self, s: &Subscriber) -> Result<(), Memory>
+    pub fn stop_open(&mut self, s: &Record) -> Result<(), Memory>
         ensures { OnOk result (self.new ≡ by (stopped s.now) self.old) }
     {
         match &s.procedure {
@@ -185,7 +185,7 @@ impl<'a> Work<'a> {
 
     /// What is open ends.
     #[tactic(auto, unfolding(crate::specs::Challenges::ended))]
-    pub fn end_open(&mut self, s: Subscriber) -> Result<(), Memory>
+    pub fn end_open(&mut self, s: Record) -> Result<(), Memory>
         ensures { OnOk result (self.new ≡ by (ended s) self.old) }
     {
         self.stop_open(&s)?;
@@ -193,12 +193,7 @@ impl<'a> Work<'a> {
     }
 
     // AUTHENTICATION REQUEST is sent.
-    fn send_request(
-        &mut self,
-        auth: &Authentication,
-        number: u16,
-        s: &Subscriber,
-    ) -> Result<(), Memory>
+    fn send_request(&mut self, auth: &Authentication, number: u16, s: &Record) -> Result<(), Memory>
         ensures { OnOk result (self.new ≡ by (request_sent auth.now number s.now) self.old) }
     {
         let message = Mm::AuthenticationRequest(authentication_request(auth));
@@ -207,7 +202,7 @@ impl<'a> Work<'a> {
 
     // What a challenge waits for the answer to.
     #[tactic(auto, unfolding(crate::specs::Challenges::challenge_sent, nas_base::specs::Branches::per))]
-    fn send_challenge(&mut self, challenging: &Challenging, s: &Subscriber) -> Result<(), Memory>
+    fn send_challenge(&mut self, challenging: &Challenging, s: &Record) -> Result<(), Memory>
         ensures { OnOk result (self.new ≡ by (challenge_sent challenging.now s.now) self.old) }
     {
         match &challenging.phase {
@@ -228,7 +223,7 @@ impl<'a> Work<'a> {
     }
 
     /// A challenge stands as the subscriber's procedure, what it waits for is sent, and its timer runs.
-    pub fn put_challenge(&mut self, challenging: &Challenging, s: Subscriber) -> Result<(), Memory>
+    pub fn put_challenge(&mut self, challenging: &Challenging, s: Record) -> Result<(), Memory>
         ensures { OnOk result (self.new ≡ by (challenge_put challenging.now s) self.old) }
     {
         self.put(s.copy())?;
@@ -263,7 +258,7 @@ impl<'a> Work<'a> {
         purpose: Purpose,
         link: Option<u16>,
         v: &Vector,
-        s: Subscriber,
+        s: Record,
     ) -> Result<(), Memory>
         requires { v.now.sqn < 2 ^ 48 }
         ensures { OnOk result (self.new ≡ by (challenge_begun purpose link v.now s) self.old) }
@@ -278,7 +273,7 @@ impl<'a> Work<'a> {
         auth: Authentication,
         purpose: Purpose,
         link: Option<u16>,
-        s: Subscriber,
+        s: Record,
     ) -> Result<(), Memory>
         ensures { OnOk result (self.new ≡ by (begun_with auth purpose link s) self.old) }
     {
@@ -289,7 +284,7 @@ impl<'a> Work<'a> {
             phase: Phase::Auth(auth),
             sendings: 1,
         };
-        let s = Subscriber {
+        let s = Record {
             last_ksi: Some(auth.ksi),
             ..s
         };
@@ -318,7 +313,7 @@ impl<'a> Work<'a> {
         purpose: Purpose,
         link: Option<u16>,
         capability: Option<Capability>,
-        s: Subscriber,
+        s: Record,
     ) -> Result<(), Memory>
         requires { VectorFits answer }
         ensures { OnOk result (self.new ≡ by (by_vector answer purpose link capability s) self.old) }
@@ -340,7 +335,7 @@ impl<'a> Work<'a> {
         purpose: Purpose,
         link: Option<u16>,
         capability: Option<Capability>,
-        s: Subscriber,
+        s: Record,
     ) -> Result<(), Memory>
         ensures { OnOk result (self.new ≡ by (challenge purpose link capability s) self.old) }
     {

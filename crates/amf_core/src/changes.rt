@@ -2,7 +2,7 @@
 ghost use Rattle.std.specs.Prelude.{◌≡◌};
 ghost use Rattle.amf_core.specs.Changes.{changed, home_now};
 
-use crate::{Amf, Link, Subscriber};
+use crate::{Amf, Link, Record};
 use milenage::Home;
 use std::marker::Model;
 
@@ -25,7 +25,7 @@ impl<'a> Model for Before<'a> {
 /// network, if it changed. Its owner takes it over.
 #[derive(Drop)]
 pub struct Changes {
-    pub(crate) subscribers: Vec<Subscriber>,
+    pub(crate) subscribers: Vec<Record>,
     pub(crate) links: Vec<Link>,
     pub(crate) tmsi: u64,
     pub(crate) home: Option<Home>,

@@ -5,7 +5,7 @@ ghost use Rattle.amf_core.specs.Work.{by};
 
 use crate::security_mode::{Commanding, commanding_on};
 use crate::work::Work;
-use crate::{AmfOut, Challenging, Phase, Procedure, Subscriber};
+use crate::{AmfOut, Challenging, Phase, Procedure, Record};
 use nas_base::{Count, Dir, Memory, Writer};
 use nas_security::{Challenge, Context, Pass, Verdict, unprotect};
 
@@ -13,7 +13,7 @@ use nas_security::{Challenge, Context, Pass, Verdict, unprotect};
 /// use, and the count.
 #[derive(Drop)]
 pub struct Check {
-    pub subscriber: Subscriber,
+    pub subscriber: Record,
     pub challenge: Challenge,
     pub is_pending: bool,
     pub count: Count,
@@ -45,11 +45,11 @@ fn with_count(count: Count, context: Context) -> Context
 }
 
 // What passed under the context in use.
-fn passed_in_use(number: u16, context: &Context, count: Count, s: Subscriber) -> Check
+fn passed_in_use(number: u16, context: &Context, count: Count, s: Record) -> Check
     ensures { result ≡ passed_in_use number context.now count s }
 {
     Check {
-        subscriber: Subscriber {
+        subscriber: Record {
             in_use: Some(with_count(count, *context)),
             link: Some(number),
             ..s
@@ -62,7 +62,7 @@ fn passed_in_use(number: u16, context: &Context, count: Count, s: Subscriber) ->
 
 /// Octets under the context in use, whose plain message is written where they pass.
 #[tactic(auto, unfolding(crate::specs::Checks::checked_in_use, nas_base::specs::Branches::per))]
-pub fn checked_in_use(number: u16, octets: &[u8], s: Subscriber, out: &mut Writer) -> Option<Check>
+pub fn checked_in_use(number: u16, octets: &[u8], s: Record, out: &mut Writer) -> Option<Check>
     requires { out.old ≡ [] }
     ensures { option_map (λ check. record { check = check; message = out.new }) result ≡ checked_in_use number octets.now s }
 {
@@ -72,7 +72,7 @@ pub fn checked_in_use(number: u16, octets: &[u8], s: Subscriber, out: &mut Write
 }
 
 // What passed under the context that was commanded.
-fn passed_pending(number: u16, commanding: &Commanding, count: Count, s: Subscriber) -> Check
+fn passed_pending(number: u16, commanding: &Commanding, count: Count, s: Record) -> Check
     ensures { result ≡ passed_pending number commanding.now count s }
 {
     let challenging = Challenging {
@@ -82,7 +82,7 @@ fn passed_pending(number: u16, commanding: &Commanding, count: Count, s: Subscri
         sendings: commanding.challenging.sendings,
     };
     Check {
-        subscriber: Subscriber {
+        subscriber: Record {
             procedure: Procedure::Challenging(challenging),
             link: Some(number),
             ..s
@@ -95,12 +95,7 @@ fn passed_pending(number: u16, commanding: &Commanding, count: Count, s: Subscri
 
 /// Octets under the context that was commanded on this link, whose plain message is written where they pass.
 #[tactic(auto, unfolding(crate::specs::Checks::checked_pending, nas_base::specs::Branches::per))]
-pub fn checked_pending(
-    number: u16,
-    octets: &[u8],
-    s: &Subscriber,
-    out: &mut Writer,
-) -> Option<Check>
+pub fn checked_pending(number: u16, octets: &[u8], s: &Record, out: &mut Writer) -> Option<Check>
     requires { out.old ≡ [] }
     ensures { option_map (λ check. record { check = check; message = out.new }) result ≡ checked_pending number octets.now s.now }
 {

@@ -4,13 +4,13 @@ ghost use Rattle.amf_core.specs.Commands.{authenticate, authenticated, deregiste
 ghost use Rattle.amf_core.specs.Outcome.{Works, unrefused};
 
 use crate::work::Work;
-use crate::{AmfRefusal, Purpose, Subscriber};
+use crate::{AmfRefusal, Purpose, Record};
 use milenage::HomeRefusal;
 use nas_base::{AmfWord, Memory, Supi};
 use std::alloc::Global;
 
 // Whether a command begins: its subscriber is registered, and no procedure is open.
-fn may_begin(s: &Subscriber) -> bool
+fn may_begin(s: &Record) -> bool
     ensures { result ≡ may_begin s.now }
 {
     s.word() == AmfWord::Registered && s.procedure.is_idle()
@@ -40,7 +40,7 @@ impl<'a> Work<'a> {
 
     // The same of a subscriber that is kept.
     #[tactic(auto, unfolding(nas_base::specs::Branches::chosen))]
-    fn authenticate_one(&mut self, alloc: Global, s: Subscriber) -> Result<(), AmfRefusal>
+    fn authenticate_one(&mut self, alloc: Global, s: Record) -> Result<(), AmfRefusal>
         ensures { Works self.old self.new result (authenticated s self.old.work) }
     {
         if !may_begin(&s) {
@@ -69,7 +69,7 @@ impl<'a> Work<'a> {
 
     // The same of a subscriber that is kept.
     #[tactic(auto, unfolding(nas_base::specs::Branches::chosen))]
-    fn deregister_one(&mut self, s: &Subscriber) -> Result<(), AmfRefusal>
+    fn deregister_one(&mut self, s: &Record) -> Result<(), AmfRefusal>
         ensures { Works self.old self.new result (left s.now self.old.work) }
     {
         if !may_begin(s) {

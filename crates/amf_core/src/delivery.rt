@@ -4,7 +4,7 @@ ghost use Rattle.mm_messages.specs.Messages.{mm_in};
 ghost use Rattle.amf_core.specs.Delivery.{action, brought_up, by_table, check_of, ciphered, ciphered_for, failed, failed_request, freshened, integrity_protected, is_permitted_type, message_of, named_inside, passed, plain, received, sender, taken, taken_plain, under_either, under_new_context};
 ghost use Rattle.amf_core.specs.Work.{by};
 
-use crate::Subscriber;
+use crate::Record;
 use crate::checks::{Check, checked_in_use, checked_pending};
 use crate::work::Work;
 use collision_rules::{Action, collide_amf, permitted_amf};
@@ -71,7 +71,7 @@ fn message_in(alloc: Global, octets: &[u8]) -> Result<Option<Mm>, Memory>
 
 // Octets under the context in use of a subscriber, if there is one.
 #[tactic(auto, unfolding(nas_base::specs::Branches::per))]
-fn check_of(s: Option<Subscriber>, number: u16, octets: &[u8], out: &mut Writer) -> Option<Check>
+fn check_of(s: Option<Record>, number: u16, octets: &[u8], out: &mut Writer) -> Option<Check>
     requires { out.old ≡ [] }
     ensures { option_map (λ check. record { check = check; message = out.new }) result ≡ check_of s number octets.now }
 {
@@ -158,7 +158,7 @@ impl<'a> Work<'a> {
 
     // The subscriber that a frame of header type 1 is checked for.
     #[tactic(auto, unfolding(nas_base::specs::Branches::per))]
-    fn sender(&self, number: u16, message: &Option<Mm>) -> Option<Subscriber>
+    fn sender(&self, number: u16, message: &Option<Mm>) -> Option<Record>
         ensures { result ≡ sender number message.now self.now.work }
     {
         match self.named_inside(message) {
@@ -169,7 +169,7 @@ impl<'a> Work<'a> {
 
     // The subscriber that a request inside names.
     #[tactic(auto, unfolding(nas_base::specs::Branches::per))]
-    fn named_inside(&self, message: &Option<Mm>) -> Option<Subscriber>
+    fn named_inside(&self, message: &Option<Mm>) -> Option<Record>
         ensures { result ≡ named_inside message.now self.now.work }
     {
         match message {
@@ -259,7 +259,7 @@ impl<'a> Work<'a> {
         alloc: Global,
         number: u16,
         octets: &[u8],
-        s: Subscriber,
+        s: Record,
     ) -> Result<(), Memory>
         ensures { OnOk result (self.new ≡ by (under_either number octets.now s) self.old) }
     {
@@ -277,7 +277,7 @@ impl<'a> Work<'a> {
         alloc: Global,
         number: u16,
         octets: &[u8],
-        s: Subscriber,
+        s: Record,
     ) -> Result<(), Memory>
         ensures { OnOk result (self.new ≡ by (ciphered_for number octets.now s) self.old) }
     {

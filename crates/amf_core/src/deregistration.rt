@@ -6,16 +6,16 @@ ghost use Rattle.amf_core.specs.Work.{by};
 use crate::acts::Protection;
 use crate::registration::is_on;
 use crate::work::Work;
-use crate::{Deregistering, Procedure, SmfAsk, Subscriber};
+use crate::{Deregistering, Procedure, Record, SmfAsk};
 use mm_messages::{DeregistrationRequestUeOriginating, DeregistrationRequestUeTerminated, Mm};
 use nas_base::Memory;
 use nas_timers::TimerId;
 
 /// A subscriber that isn't registered, without a procedure.
-pub fn unregistered(s: Subscriber) -> Subscriber
+pub fn unregistered(s: Record) -> Record
     ensures { result ≡ unregistered s }
 {
-    Subscriber {
+    Record {
         procedure: Procedure::Idle,
         registered: false,
         ..s
@@ -35,7 +35,7 @@ fn is_deregistering(procedure: &Procedure) -> bool
 impl<'a> Work<'a> {
     // Not registered any more.
     #[tactic(auto, unfolding(crate::specs::Deregistration::deregistered))]
-    fn deregister(&mut self, s: &Subscriber) -> Result<(), Memory>
+    fn deregister(&mut self, s: &Record) -> Result<(), Memory>
         ensures { OnOk result (self.new ≡ by (deregistered s.now) self.old) }
     {
         self.stop_open(s)?;
@@ -49,7 +49,7 @@ impl<'a> Work<'a> {
         &mut self,
         request: &DeregistrationRequestUeOriginating,
         number: u16,
-        s: &Subscriber,
+        s: &Record,
     ) -> Result<(), Memory>
         ensures { OnOk result (self.new ≡ by (deregistration_requested request.now number s.now) self.old) }
     {
@@ -66,7 +66,7 @@ impl<'a> Work<'a> {
 
     /// DEREGISTRATION ACCEPT of the handset.
     #[tactic(auto, unfolding(crate::specs::Deregistration::deregistration_accepted, nas_base::specs::Branches::chosen))]
-    pub fn deregistration_accepted(&mut self, number: u16, s: &Subscriber) -> Result<(), Memory>
+    pub fn deregistration_accepted(&mut self, number: u16, s: &Record) -> Result<(), Memory>
         ensures { OnOk result (self.new ≡ by (deregistration_accepted number s.now) self.old) }
     {
         if is_deregistering(&s.procedure) && is_on(number, s.link) {
@@ -76,7 +76,7 @@ impl<'a> Work<'a> {
     }
 
     // DEREGISTRATION REQUEST of the network.
-    fn send_deregistration(&mut self, s: &Subscriber) -> Result<(), Memory>
+    fn send_deregistration(&mut self, s: &Record) -> Result<(), Memory>
         ensures { OnOk result (self.new ≡ by (deregistration_sent s.now) self.old) }
     {
         self.say_on(
@@ -90,11 +90,11 @@ impl<'a> Work<'a> {
     }
 
     /// A de-registration by the network stands as the subscriber's procedure, its request is sent, and its timer runs.
-    pub fn put_deregistration(&mut self, sendings: u8, s: &Subscriber) -> Result<(), Memory>
+    pub fn put_deregistration(&mut self, sendings: u8, s: &Record) -> Result<(), Memory>
         ensures { OnOk result (self.new ≡ by (deregistration_put (record { sendings = sendings }) s.now) self.old) }
     {
         let procedure = Procedure::Deregistering(Deregistering { sendings });
-        self.put(Subscriber {
+        self.put(Record {
             procedure,
             ..s.copy()
         })?;

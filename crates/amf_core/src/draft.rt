@@ -10,7 +10,7 @@ ghost use Rattle.milenage.specs.Home.{challenge_of, challenged, resync_of, resyn
 
 use crate::amf::{newest_link, newest_subscriber};
 use crate::changes::{Before, Changes};
-use crate::{Amf, Configured, Link, Subscriber};
+use crate::{Amf, Configured, Link, Record};
 use milenage::{Home, HomeRefusal, Vector};
 use nas_base::{Memory, Supi};
 use nas_elements::{Guti, Stmsi};
@@ -36,7 +36,7 @@ impl<'a> Model for Draft<'a> {
 
 impl Changes {
     // A record as it is by now.
-    fn by_now<'b>(&'b self, kept: &'b Subscriber) -> &'b Subscriber
+    fn by_now<'b>(&'b self, kept: &'b Record) -> &'b Record
         ensures { result.now ≡ current is_same_subscriber self.now.subscribers kept.now }
     {
         match newest_subscriber(self.subscribers.as_slice(), kept) {
@@ -89,7 +89,7 @@ impl<'a> Draft<'a> {
     }
 
     /// The record of a subscriber, by the digits of its SUPI.
-    pub(crate) fn subscriber(&self, supi: &[u8]) -> Option<Subscriber>
+    pub(crate) fn subscriber(&self, supi: &[u8]) -> Option<Record>
         ensures { result ≡ subscriber_in supi.now self.now.amf.subscribers }
     {
         let amf = self.before.amf;
@@ -104,7 +104,7 @@ impl<'a> Draft<'a> {
     }
 
     /// The record of the subscriber that a 5G-GUTI is kept for.
-    pub(crate) fn keeper(&self, guti: &Guti) -> Option<Subscriber>
+    pub(crate) fn keeper(&self, guti: &Guti) -> Option<Record>
         ensures { result ≡ found (keeps_guti guti.now) self.now.amf.subscribers }
     {
         let amf = self.before.amf;
@@ -119,7 +119,7 @@ impl<'a> Draft<'a> {
     }
 
     /// The record of the subscriber that a 5G-GUTI with this 5G-S-TMSI is kept for.
-    pub(crate) fn short_keeper(&self, stmsi: &Stmsi) -> Option<Subscriber>
+    pub(crate) fn short_keeper(&self, stmsi: &Stmsi) -> Option<Record>
         ensures { result ≡ found (keeps_stmsi stmsi.now) self.now.amf.subscribers }
     {
         let amf = self.before.amf;
@@ -135,7 +135,7 @@ impl<'a> Draft<'a> {
 
     /// A record takes the place of that of its subscriber.
     #[tactic(auto, using(crate::proofs::Drafting::subscriber_put))]
-    pub(crate) fn put(&mut self, subscriber: Subscriber) -> Result<(), Memory>
+    pub(crate) fn put(&mut self, subscriber: Record) -> Result<(), Memory>
         ensures { OnOk result (self.new ≡ record self.old { amf = with_subscriber subscriber self.old.amf }) }
     {
         match self.changes.subscribers.insert(0, subscriber) {

@@ -8,7 +8,7 @@ use crate::challenges::{challenge_open, idle};
 use crate::deregistration::unregistered;
 use crate::registration::{acceptance, is_on};
 use crate::work::Work;
-use crate::{Accepting, Challenging, Link, Procedure, Purpose, SmfAsk, Subscriber};
+use crate::{Accepting, Challenging, Link, Procedure, Purpose, Record, SmfAsk};
 use nas_base::{Memory, Octets, Psi, Supi};
 use nas_elements::Status;
 use nas_timers::TimerId;
@@ -55,21 +55,17 @@ fn is_challenged_on(number: u16, procedure: &Procedure) -> bool
 
 // A subscriber that doesn't have this link.
 #[tactic(auto, unfolding(nas_base::specs::Branches::chosen))]
-fn unlinked(number: u16, s: Subscriber) -> Subscriber
+fn unlinked(number: u16, s: Record) -> Record
     ensures { result ≡ unlinked number s }
 {
     let link = if is_on(number, s.link) { None } else { s.link };
-    Subscriber { link, ..s }
+    Record { link, ..s }
 }
 
 impl<'a> Work<'a> {
     // T3560 of a challenge.
     #[tactic(auto, unfolding(nas_base::specs::Branches::chosen))]
-    fn challenging_expired(
-        &mut self,
-        challenging: &Challenging,
-        s: Subscriber,
-    ) -> Result<(), Memory>
+    fn challenging_expired(&mut self, challenging: &Challenging, s: Record) -> Result<(), Memory>
         ensures { OnOk result (self.new ≡ by (challenging_expired challenging.now s) self.old) }
     {
         if challenging.sendings >= SENDINGS {
@@ -81,7 +77,7 @@ impl<'a> Work<'a> {
     }
 
     // REGISTRATION ACCEPT once more.
-    fn resend_acceptance(&mut self, accepting: &Accepting, s: &Subscriber) -> Result<(), Memory>
+    fn resend_acceptance(&mut self, accepting: &Accepting, s: &Record) -> Result<(), Memory>
         ensures { OnOk result (self.new ≡ by (acceptance_resent accepting.now s.now) self.old) }
     {
         let message = acceptance(self.config(), accepting, s);
@@ -90,14 +86,14 @@ impl<'a> Work<'a> {
 
     // T3550 of an acceptance.
     #[tactic(auto, unfolding(nas_base::specs::Branches::chosen))]
-    fn accepting_expired(&mut self, accepting: &Accepting, s: Subscriber) -> Result<(), Memory>
+    fn accepting_expired(&mut self, accepting: &Accepting, s: Record) -> Result<(), Memory>
         ensures { OnOk result (self.new ≡ by (accepting_expired accepting.now s) self.old) }
     {
         if accepting.sendings >= SENDINGS {
             return self.put(idle(s));
         }
         let again = acceptance_again(accepting);
-        self.put(Subscriber {
+        self.put(Record {
             procedure: Procedure::Accepting(again.copy()),
             ..s.copy()
         })?;
@@ -107,7 +103,7 @@ impl<'a> Work<'a> {
 
     // T3522 of a de-registration.
     #[tactic(auto, unfolding(nas_base::specs::Branches::chosen))]
-    fn deregistering_expired(&mut self, sendings: u8, s: &Subscriber) -> Result<(), Memory>
+    fn deregistering_expired(&mut self, sendings: u8, s: &Record) -> Result<(), Memory>
         ensures { OnOk result (self.new ≡ by (deregistering_expired (record { sendings = sendings }) s.now) self.old) }
     {
         if sendings >= SENDINGS {
@@ -119,7 +115,7 @@ impl<'a> Work<'a> {
 
     // A timer of a subscriber expired. One whose procedure has ended finds no owner.
     #[tactic(auto, unfolding(crate::specs::Events::expired_of))]
-    fn expired_of(&mut self, id: &TimerId, s: Subscriber) -> Result<(), Memory>
+    fn expired_of(&mut self, id: &TimerId, s: Record) -> Result<(), Memory>
         ensures { OnOk result (self.new ≡ by (expired_of id.now s) self.old) }
     {
         match (id, &s.procedure) {
@@ -152,7 +148,7 @@ impl<'a> Work<'a> {
 
     // The SMF wants a security mode procedure.
     #[tactic(auto, unfolding(nas_base::specs::Branches::chosen))]
-    fn fence_one(&mut self, alloc: Global, s: Subscriber) -> Result<(), Memory>
+    fn fence_one(&mut self, alloc: Global, s: Record) -> Result<(), Memory>
         ensures { OnOk result (self.new ≡ by (fenced_of s) self.old) }
     {
         if !s.procedure.is_idle() {
@@ -178,7 +174,7 @@ impl<'a> Work<'a> {
         ensures { OnOk result (self.new ≡ by (sessions_told supi.now status) self.old) }
     {
         match self.subscriber(supi.as_slice()) {
-            Some(s) => self.put(Subscriber { status, ..s }),
+            Some(s) => self.put(Record { status, ..s }),
             None => Ok(()),
         }
     }
@@ -196,7 +192,7 @@ impl<'a> Work<'a> {
 
     // The link of a subscriber is lost.
     #[tactic(auto, unfolding(nas_base::specs::Branches::chosen))]
-    fn lose_link(&mut self, number: u16, s: Subscriber) -> Result<(), Memory>
+    fn lose_link(&mut self, number: u16, s: Record) -> Result<(), Memory>
         ensures { OnOk result (self.new ≡ by (link_lost_of number s) self.old) }
     {
         if is_challenged_on(number, &s.procedure) {

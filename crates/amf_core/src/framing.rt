@@ -7,7 +7,7 @@ ghost use Rattle.amf_core.specs.State.{subscriber_in};
 use crate::acts::{Act, Acts, Protection};
 use crate::draft::Draft;
 use crate::security_mode::{Commanding, commanding_of};
-use crate::{AmfOut, AmfOuts, Challenging, Phase, Procedure, Subscriber};
+use crate::{AmfOut, AmfOuts, Challenging, Phase, Procedure, Record};
 use mm_messages::{Mm, encode_mm};
 use nas_base::{Dir, Memory, Octets, Supi, Writer};
 use nas_security::{Context, Pass, Send, protect};
@@ -51,14 +51,14 @@ impl<'a> Framing<'a> {
     }
 
     // The record of a subscriber, by the digits of its SUPI.
-    fn subscriber(&self, supi: &[u8]) -> Option<Subscriber>
+    fn subscriber(&self, supi: &[u8]) -> Option<Record>
         ensures { result ≡ subscriber_in supi.now self.now.framed.amf.subscribers }
     {
         self.core.subscriber(supi)
     }
 
     // A record whose count was taken takes the place of that of its subscriber.
-    fn put(&mut self, subscriber: Subscriber) -> Result<(), Memory>
+    fn put(&mut self, subscriber: Record) -> Result<(), Memory>
         ensures { OnOk result (self.new ≡ by (counted subscriber) self.old) }
     {
         self.core.put(subscriber)
@@ -138,7 +138,7 @@ impl<'a> Framing<'a> {
         alloc: Global,
         link: u16,
         message: &Mm,
-        s: Subscriber,
+        s: Record,
     ) -> Result<(), Memory>
         ensures { OnOk result (self.new ≡ by (ciphered_for link (spelling message.now) s) self.old) }
     {
@@ -156,7 +156,7 @@ impl<'a> Framing<'a> {
         link: u16,
         message: &Mm,
         context: Context,
-        s: Subscriber,
+        s: Record,
     ) -> Result<(), Memory>
         ensures { OnOk result (self.new ≡ by (under_in_use link (spelling message.now) context s) self.old) }
     {
@@ -175,7 +175,7 @@ impl<'a> Framing<'a> {
             challenge,
             count,
         };
-        self.put(Subscriber {
+        self.put(Record {
             in_use: Some(context),
             ..s
         })?;
@@ -210,7 +210,7 @@ impl<'a> Framing<'a> {
         link: u16,
         message: &Mm,
         commanding: &Commanding,
-        s: Subscriber,
+        s: Record,
     ) -> Result<(), Memory>
         ensures { OnOk result (self.new ≡ by (under_new link (spelling message.now) commanding.now s) self.old) }
     {
@@ -235,7 +235,7 @@ impl<'a> Framing<'a> {
             phase: Phase::Mode(context),
             sendings: commanding.challenging.sendings,
         };
-        self.put(Subscriber {
+        self.put(Record {
             procedure: Procedure::Challenging(challenging),
             ..s
         })?;

@@ -42,7 +42,7 @@ pub use crate::outs::{AmfOut, AmfOuts, SmfAsk, SmfCall};
 pub use crate::procedures::{
     Accepting, Authentication, Challenging, Deregistering, Phase, Procedure, Purpose,
 };
-pub use crate::requests::{Named, Request};
+pub use crate::requests::{KeptIdentity, Request};
 pub use crate::stepping::{follow, step};
-pub use crate::subscriber::{Gutis, KeptGuti, Offer, Subscriber};
+pub use crate::subscriber::{Gutis, KeptGuti, Offer, Record};
 pub use crate::view::NetView;

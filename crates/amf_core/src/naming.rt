@@ -3,7 +3,7 @@ ghost use Rattle.std.specs.Prelude.{◌≡◌};
 ghost use Rattle.amf_core.specs.Naming.{is_kept_for_another, kept_for, named_by_suci, suci_digits};
 
 use crate::work::Work;
-use crate::{Amf, Subscriber};
+use crate::{Amf, Record};
 use arrayvec::ArrayVec;
 use nas_base::Supi;
 use nas_elements::{Guti, Identity, Suci};
@@ -22,14 +22,14 @@ pub fn suci_digits(suci: &Suci) -> ArrayVec<u8, 16>
 
 impl<'a> Work<'a> {
     /// The subscriber that a SUCI names.
-    pub fn named_by_suci(&self, suci: &Suci) -> Option<Subscriber>
+    pub fn named_by_suci(&self, suci: &Suci) -> Option<Record>
         ensures { result ≡ named_by_suci suci.now self.now.work }
     {
         self.subscriber(suci_digits(suci).as_slice())
     }
 
     /// The subscriber that an identity is kept for.
-    pub fn kept_for(&self, identity: &Identity) -> Option<Subscriber>
+    pub fn kept_for(&self, identity: &Identity) -> Option<Record>
         ensures { result ≡ kept_for identity.now self.now.work }
     {
         match identity {

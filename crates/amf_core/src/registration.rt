@@ -7,7 +7,7 @@ ghost use Rattle.amf_core.specs.Work.{by};
 use crate::acts::Protection;
 use crate::requests::{copied, copied_suci};
 use crate::work::Work;
-use crate::{Accepting, Configured, Named, Procedure, Purpose, Request, Subscriber};
+use crate::{Accepting, Configured, KeptIdentity, Procedure, Purpose, Record, Request};
 use mm_messages::{IdentityRequest, Mm, RegistrationAccept, RegistrationRequest, RegistrationType};
 use nas_base::mm_cause::{
     ILLEGAL_UE, PROTOCOL_ERROR_UNSPECIFIED, UE_IDENTITY_CANNOT_BE_DERIVED_BY_THE_NETWORK,
@@ -44,7 +44,7 @@ fn is_enough(capability: &Capability) -> bool
 
 // The capability that counts: the one that the request tells, else the one that the subscriber told last.
 #[tactic(auto, unfolding(nas_base::specs::Branches::per))]
-fn counting_capability(request: &Request, s: &Subscriber) -> Option<Capability>
+fn counting_capability(request: &Request, s: &Record) -> Option<Capability>
     ensures { result ≡ counting_capability request.now s.now }
 {
     match &request.capability {
@@ -55,7 +55,7 @@ fn counting_capability(request: &Request, s: &Subscriber) -> Option<Capability>
 
 // Whether the capability that counts is there, and enough.
 #[tactic(auto, unfolding(nas_base::specs::Branches::per))]
-fn is_capable(request: &Request, s: &Subscriber) -> bool
+fn is_capable(request: &Request, s: &Record) -> bool
     ensures { result ≡ is_capable request.now s.now }
 {
     match counting_capability(request, s) {
@@ -65,7 +65,7 @@ fn is_capable(request: &Request, s: &Subscriber) -> bool
 }
 
 // What is kept of a request, beside who sent it.
-fn kept(request: &RegistrationRequest, identity: Named) -> Request
+fn kept(request: &RegistrationRequest, identity: KeptIdentity) -> Request
     ensures { result ≡ kept request.now identity }
 {
     Request {
@@ -131,7 +131,7 @@ fn accept(config: &Configured, slices: &Nssai, guti: Option<Guti>, status: Optio
 }
 
 /// REGISTRATION ACCEPT of an acceptance.
-pub fn acceptance(config: &Configured, accepting: &Accepting, s: &Subscriber) -> Mm
+pub fn acceptance(config: &Configured, accepting: &Accepting, s: &Record) -> Mm
     ensures { result ≡ acceptance config.now accepting.now s.now }
 {
     accept(
@@ -166,7 +166,7 @@ fn is_emergency(registration: RegistrationType) -> bool
 
 // Whether a periodic request passed for its subscriber, who is registered.
 #[tactic(auto, unfolding(nas_base::specs::Branches::per))]
-fn is_granted(passed: &Option<Supi>, request: &Request, s: &Subscriber) -> bool
+fn is_granted(passed: &Option<Supi>, request: &Request, s: &Record) -> bool
     ensures { result ≡ is_granted passed.now request.now s.now }
 {
     let is_own = match passed {
@@ -182,7 +182,7 @@ impl<'a> Work<'a> {
         &mut self,
         accepting: &Accepting,
         number: u16,
-        s: &Subscriber,
+        s: &Record,
     ) -> Result<(), Memory>
         ensures { OnOk result (self.new ≡ by (accept_sent accepting.now number s.now) self.old) }
     {
@@ -191,7 +191,7 @@ impl<'a> Work<'a> {
     }
 
     // REGISTRATION ACCEPT of a periodic request.
-    fn accept_periodic(&mut self, number: u16, s: &Subscriber) -> Result<(), Memory>
+    fn accept_periodic(&mut self, number: u16, s: &Record) -> Result<(), Memory>
         ensures { OnOk result (self.new ≡ by (periodic_accepted number s.now) self.old) }
     {
         let message = accept(self.config(), &s.slices, None, None);
@@ -206,7 +206,7 @@ impl<'a> Work<'a> {
         number: u16,
         passed: &Option<Supi>,
         request: Request,
-        s: Subscriber,
+        s: Record,
     ) -> Result<(), Memory>
         ensures { OnOk result (self.new ≡ by (request_weighed number passed.now request s) self.old) }
     {
@@ -237,7 +237,7 @@ impl<'a> Work<'a> {
         number: u16,
         passed: &Option<Supi>,
         request: Request,
-        s: Subscriber,
+        s: Record,
     ) -> Result<(), Memory>
         ensures { OnOk result (self.new ≡ by (requested number passed.now request s) self.old) }
     {
@@ -270,7 +270,7 @@ impl<'a> Work<'a> {
         number: u16,
         passed: &Option<Supi>,
         request: Request,
-        s: Option<Subscriber>,
+        s: Option<Record>,
     ) -> Result<(), Memory>
         ensures { OnOk result (self.new ≡ by (request_by_suci number passed.now request s) self.old) }
     {
@@ -288,7 +288,7 @@ impl<'a> Work<'a> {
         number: u16,
         passed: &Option<Supi>,
         request: Request,
-        s: Option<Subscriber>,
+        s: Option<Record>,
     ) -> Result<(), Memory>
         ensures { OnOk result (self.new ≡ by (request_by_guti number passed.now request s) self.old) }
     {
@@ -340,11 +340,11 @@ impl<'a> Work<'a> {
     {
         match &request.identity {
             Identity::Suci(suci) => {
-                let kept = kept(request, Named::Suci(copied_suci(suci)));
+                let kept = kept(request, KeptIdentity::Suci(copied_suci(suci)));
                 self.request_of_suci(alloc, number, passed, kept, suci)
             }
             Identity::Guti(guti) => {
-                let kept = kept(request, Named::Guti(guti.copy()));
+                let kept = kept(request, KeptIdentity::Guti(guti.copy()));
                 self.request_of_guti(alloc, number, passed, kept, guti)
             }
             Identity::Stmsi(_) | Identity::Other(_) => {

@@ -2,7 +2,7 @@
 ghost use Rattle.std.specs.Prelude.{◌≡◌, ◌==◌};
 ghost use Rattle.mm_messages.specs.Parts.{registration_type_code};
 ghost use Rattle.amf_core.specs.Naming.{is_guti, is_plmn_of};
-ghost use Rattle.amf_core.specs.Requests.{are_same_sessions, is_named, is_option, is_same, is_suci};
+ghost use Rattle.amf_core.specs.Requests.{are_same_sessions, is_identity, is_option, is_same, is_suci};
 ghost use Rattle.std.specs.Str.{bytes_eq};
 
 use mm_messages::RegistrationType;
@@ -11,7 +11,7 @@ use nas_elements::{Capability, Guti, Status, Suci};
 
 /// Who sent a request that is kept: only one that names its sender by a SUCI or a 5G-GUTI is.
 #[derive(Drop)]
-pub enum Named {
+pub enum KeptIdentity {
     Suci(Suci),
     Guti(Guti),
 }
@@ -21,7 +21,7 @@ pub enum Named {
 pub struct Request {
     pub registration: RegistrationType,
     pub ksi: Ksi,
-    pub identity: Named,
+    pub identity: KeptIdentity,
     pub capability: Option<Capability>,
     pub status: Option<Status>,
 }
@@ -88,25 +88,25 @@ fn are_same_sessions(one: &Status, other: &Status) -> bool
     one == other
 }
 
-impl Named {
+impl KeptIdentity {
     // Whether this names the same.
-    fn is_named(&self, other: &Named) -> bool
-        ensures { result ≡ is_named self.now other.now }
+    fn is_identity(&self, other: &KeptIdentity) -> bool
+        ensures { result ≡ is_identity self.now other.now }
     {
         match (self, other) {
-            (Named::Suci(one), Named::Suci(other)) => is_suci(one, other),
-            (Named::Guti(one), Named::Guti(other)) => is_guti(one, other),
+            (KeptIdentity::Suci(one), KeptIdentity::Suci(other)) => is_suci(one, other),
+            (KeptIdentity::Guti(one), KeptIdentity::Guti(other)) => is_guti(one, other),
             _ => false,
         }
     }
 
     /// An equal value.
-    pub fn copy(&self) -> Named
+    pub fn copy(&self) -> KeptIdentity
         ensures { result ≡ self.now }
     {
         match self {
-            Named::Suci(suci) => Named::Suci(copied_suci(suci)),
-            Named::Guti(guti) => Named::Guti(guti.copy()),
+            KeptIdentity::Suci(suci) => KeptIdentity::Suci(copied_suci(suci)),
+            KeptIdentity::Guti(guti) => KeptIdentity::Guti(guti.copy()),
         }
     }
 }
@@ -118,7 +118,7 @@ impl Request {
     {
         is_type(self.registration, other.registration)
             && self.ksi == other.ksi
-            && self.identity.is_named(&other.identity)
+            && self.identity.is_identity(&other.identity)
             && is_capability(&self.capability, &other.capability)
             && is_status(&self.status, &other.status)
     }

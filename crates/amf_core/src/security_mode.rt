@@ -7,7 +7,7 @@ use crate::acceptance::Whole;
 use crate::naming::suci_digits;
 use crate::registration::is_on;
 use crate::work::Work;
-use crate::{Challenging, Phase, Procedure, Purpose, SmfAsk, Subscriber};
+use crate::{Challenging, Phase, Procedure, Purpose, Record, SmfAsk};
 use mm_messages::{Mm, MmRefusal, RegistrationRequest, SecurityModeComplete, decode_mm};
 use nas_base::{Memory, Octets};
 use nas_elements::{Guti, Identity};
@@ -62,7 +62,7 @@ fn whole_with(guti: Option<Guti>, request: &RegistrationRequest) -> Whole
 
 // The same, where the request names this subscriber.
 #[tactic(auto, unfolding(nas_base::specs::Branches::chosen))]
-fn whole_by(request: &RegistrationRequest, s: &Subscriber) -> Option<Whole>
+fn whole_by(request: &RegistrationRequest, s: &Record) -> Option<Whole>
     ensures { result ≡ whole_by request.now.identity request.now s.now }
 {
     match &request.identity {
@@ -79,7 +79,7 @@ fn whole_by(request: &RegistrationRequest, s: &Subscriber) -> Option<Whole>
 }
 
 // The same, where the message is a REGISTRATION REQUEST.
-fn whole_of(message: &Mm, s: &Subscriber) -> Option<Whole>
+fn whole_of(message: &Mm, s: &Record) -> Option<Whole>
     ensures { result ≡ whole_of (Ok message.now) s.now }
 {
     match message {
@@ -90,11 +90,7 @@ fn whole_of(message: &Mm, s: &Subscriber) -> Option<Whole>
 
 // The whole request in SECURITY MODE COMPLETE.
 #[tactic(auto, unfolding(nas_base::specs::Branches::per))]
-fn whole_in(
-    alloc: Global,
-    message: &Option<Octets>,
-    s: &Subscriber,
-) -> Result<Option<Whole>, Memory>
+fn whole_in(alloc: Global, message: &Option<Octets>, s: &Record) -> Result<Option<Whole>, Memory>
     ensures { IfOk result (λ whole. whole ≡ whole_in message.now s.now) }
 {
     let Some(octets) = message else {
@@ -110,10 +106,10 @@ fn whole_in(
 }
 
 // A subscriber whose context is in use.
-fn in_use(context: Context, s: Subscriber) -> Subscriber
+fn in_use(context: Context, s: Record) -> Record
     ensures { result ≡ in_use context s }
 {
-    Subscriber {
+    Record {
         procedure: Procedure::Idle,
         in_use: Some(context),
         ..s
@@ -123,7 +119,7 @@ fn in_use(context: Context, s: Subscriber) -> Subscriber
 impl<'a> Work<'a> {
     /// SECURITY MODE REJECT.
     #[tactic(auto, unfolding(crate::specs::SecurityMode::mode_rejected, nas_base::specs::Branches::per))]
-    pub fn mode_rejected(&mut self, number: u16, s: Subscriber) -> Result<(), Memory>
+    pub fn mode_rejected(&mut self, number: u16, s: Record) -> Result<(), Memory>
         ensures { OnOk result (self.new ≡ by (mode_rejected number s) self.old) }
     {
         match commanding_on(number, &s.procedure) {
@@ -133,7 +129,7 @@ impl<'a> Work<'a> {
     }
 
     // The context is in use from now on.
-    fn switch(&mut self, commanding: &Commanding, s: &Subscriber) -> Result<(), Memory>
+    fn switch(&mut self, commanding: &Commanding, s: &Record) -> Result<(), Memory>
         ensures { OnOk result (self.new ≡ by (switched commanding.now s.now) self.old) }
     {
         self.stop_open(s)?;
@@ -149,7 +145,7 @@ impl<'a> Work<'a> {
         whole: Option<Whole>,
         number: u16,
         context: &Context,
-        s: Subscriber,
+        s: Record,
     ) -> Result<(), Memory>
         ensures { OnOk result (self.new ≡ by (goes_on purpose.now whole number context.now s) self.old) }
     {
@@ -168,7 +164,7 @@ impl<'a> Work<'a> {
         complete: &SecurityModeComplete,
         number: u16,
         commanding: &Commanding,
-        s: Subscriber,
+        s: Record,
     ) -> Result<(), Memory>
         ensures { OnOk result (self.new ≡ by (completed complete.now number commanding.now s) self.old) }
     {
@@ -191,7 +187,7 @@ impl<'a> Work<'a> {
         alloc: Global,
         complete: &SecurityModeComplete,
         number: u16,
-        s: Subscriber,
+        s: Record,
     ) -> Result<(), Memory>
         ensures { OnOk result (self.new ≡ by (mode_completed complete.now number s) self.old) }
     {

@@ -3,7 +3,7 @@ ghost use Rattle.std.specs.Prelude.{◌≡◌, OnOk};
 ghost use Rattle.amf_core.specs.Service.{service_accept, service_refused, service_reject, service_requested};
 ghost use Rattle.amf_core.specs.Work.{by};
 
-use crate::Subscriber;
+use crate::Record;
 use crate::acts::Protection;
 use crate::work::Work;
 use mm_messages::{Mm, ServiceAccept, ServiceReject};
@@ -30,7 +30,7 @@ fn service_reject(cause: u8) -> Mm
 impl<'a> Work<'a> {
     /// SERVICE REQUEST that passed.
     #[tactic(auto, unfolding(crate::specs::Service::service_requested, nas_base::specs::Branches::chosen))]
-    pub fn service_requested(&mut self, number: u16, s: &Subscriber) -> Result<(), Memory>
+    pub fn service_requested(&mut self, number: u16, s: &Record) -> Result<(), Memory>
         ensures { OnOk result (self.new ≡ by (service_requested number s.now) self.old) }
     {
         if s.registered {

@@ -66,7 +66,7 @@ pub struct Offer {
 
 /// What an AMF keeps of a subscriber.
 #[derive(Drop)]
-pub struct Subscriber {
+pub struct Record {
     pub supi: Supi,
     /// The slices that are subscribed.
     pub slices: Nssai,
@@ -180,12 +180,12 @@ pub fn copied_offer(offer: &Option<Offer>) -> Option<Offer>
     }
 }
 
-impl Subscriber {
+impl Record {
     /// A subscriber of whom nothing is known yet.
-    pub fn unknown_yet(config: &AmfSubscriber) -> Subscriber
+    pub fn unknown_yet(config: &AmfSubscriber) -> Record
         ensures { result ≡ unknown_yet config.now }
     {
-        Subscriber {
+        Record {
             supi: config.supi.copy(),
             slices: config.slices.copy(),
             in_use: None,
@@ -202,10 +202,10 @@ impl Subscriber {
     }
 
     /// An equal value.
-    pub fn copy(&self) -> Subscriber
+    pub fn copy(&self) -> Record
         ensures { result ≡ self.now }
     {
-        Subscriber {
+        Record {
             supi: self.supi.copy(),
             slices: self.slices.copy(),
             in_use: self.in_use,

@@ -5,7 +5,7 @@ ghost use Rattle.amf_core.specs.Work.{by};
 
 use crate::acts::Protection;
 use crate::work::Work;
-use crate::{SmfAsk, Subscriber};
+use crate::{Record, SmfAsk};
 use mm_messages::{DlNasTransport, Mm, UlNasTransport};
 use nas_base::mm_cause::PAYLOAD_WAS_NOT_FORWARDED;
 use nas_base::{Memory, Octets, Psi};
@@ -35,7 +35,7 @@ impl<'a> Work<'a> {
         &mut self,
         transport: UlNasTransport,
         number: u16,
-        s: &Subscriber,
+        s: &Record,
     ) -> Result<(), Memory>
         ensures { OnOk result (self.new ≡ by (not_forwarded transport number s.now) self.old) }
     {
@@ -58,7 +58,7 @@ impl<'a> Work<'a> {
         transport: UlNasTransport,
         number: u16,
         challenge: Challenge,
-        s: &Subscriber,
+        s: &Record,
     ) -> Result<(), Memory>
         ensures { OnOk result (self.new ≡ by (transported transport number challenge s.now) self.old) }
     {
@@ -79,7 +79,7 @@ impl<'a> Work<'a> {
 
     /// DL NAS TRANSPORT with a 5GSM message of the SMF.
     #[tactic(auto, unfolding(crate::specs::Transport::brought_down))]
-    pub fn bring_down(&mut self, psi: Psi, frame: Octets, s: &Subscriber) -> Result<(), Memory>
+    pub fn bring_down(&mut self, psi: Psi, frame: Octets, s: &Record) -> Result<(), Memory>
         ensures { OnOk result (self.new ≡ by (brought_down psi frame s.now) self.old) }
     {
         self.say_on(

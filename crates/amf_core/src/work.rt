@@ -10,7 +10,7 @@ ghost use Rattle.milenage.specs.Home.{challenge_of, challenged, resync_of, resyn
 
 use crate::acts::{Act, Acts, Protection};
 use crate::draft::Draft;
-use crate::{AmfOut, Configured, Link, SmfAsk, SmfCall, Subscriber};
+use crate::{AmfOut, Configured, Link, Record, SmfAsk, SmfCall};
 use milenage::{HomeRefusal, Vector};
 use mm_messages::{FiveGmmStatus, Mm, RegistrationReject};
 use nas_base::{Memory, Moment, Supi};
@@ -88,21 +88,21 @@ impl<'a> Work<'a> {
     }
 
     /// The record of a subscriber, by the digits of its SUPI.
-    pub fn subscriber(&self, supi: &[u8]) -> Option<Subscriber>
+    pub fn subscriber(&self, supi: &[u8]) -> Option<Record>
         ensures { result ≡ subscriber supi.now self.now.work }
     {
         self.core.subscriber(supi)
     }
 
     /// The record of the subscriber that a 5G-GUTI is kept for.
-    pub fn keeper(&self, guti: &Guti) -> Option<Subscriber>
+    pub fn keeper(&self, guti: &Guti) -> Option<Record>
         ensures { result ≡ keeper guti.now self.now.work }
     {
         self.core.keeper(guti)
     }
 
     /// The record of the subscriber that a 5G-GUTI with this 5G-S-TMSI is kept for.
-    pub fn short_keeper(&self, stmsi: &Stmsi) -> Option<Subscriber>
+    pub fn short_keeper(&self, stmsi: &Stmsi) -> Option<Record>
         ensures { result ≡ short_keeper stmsi.now self.now.work }
     {
         self.core.short_keeper(stmsi)
@@ -110,7 +110,7 @@ impl<'a> Work<'a> {
 
     /// The record of a subscriber takes the place of the one before it.
     #[tactic(auto, unfolding(crate::specs::Work::put))]
-    pub fn put(&mut self, subscriber: Subscriber) -> Result<(), Memory>
+    pub fn put(&mut self, subscriber: Record) -> Result<(), Memory>
         ensures { OnOk result (self.new ≡ by (put subscriber) self.old) }
     {
         self.core.put(subscriber)
@@ -175,7 +175,7 @@ impl<'a> Work<'a> {
 
     /// The subscriber that a link last passed or challenged.
     #[tactic(auto, unfolding(nas_base::specs::Branches::per))]
-    pub fn subscriber_of_link(&self, number: u16) -> Option<Subscriber>
+    pub fn subscriber_of_link(&self, number: u16) -> Option<Record>
         ensures { result ≡ subscriber_of_link number self.now.work }
     {
         match self.link(number).supi {
@@ -241,7 +241,7 @@ impl<'a> Work<'a> {
     }
 
     /// An answer that belongs to the procedure of a subscriber.
-    pub fn answer_for(&mut self, s: &Subscriber, number: u16, message: Mm) -> Result<(), Memory>
+    pub fn answer_for(&mut self, s: &Record, number: u16, message: Mm) -> Result<(), Memory>
         ensures { OnOk result (self.new ≡ by (answer_for s.now number message) self.old) }
     {
         let protection = by_link(&self.link(number), &s.supi);
@@ -249,7 +249,7 @@ impl<'a> Work<'a> {
     }
 
     /// A timer of a subscriber is started for its duration.
-    pub fn start(&mut self, id: TimerId, s: &Subscriber) -> Result<(), Memory>
+    pub fn start(&mut self, id: TimerId, s: &Record) -> Result<(), Memory>
         ensures { OnOk result (self.new ≡ by (start id s.now) self.old) }
     {
         let at = deadline_after(self.moment, self.config().durations.of(&id));
@@ -258,7 +258,7 @@ impl<'a> Work<'a> {
     }
 
     /// A timer of a subscriber is stopped.
-    pub fn stop(&mut self, id: TimerId, s: &Subscriber) -> Result<(), Memory>
+    pub fn stop(&mut self, id: TimerId, s: &Record) -> Result<(), Memory>
         ensures { OnOk result (self.new ≡ by (stop id s.now) self.old) }
     {
         let supi = s.supi.copy();
@@ -266,7 +266,7 @@ impl<'a> Work<'a> {
     }
 
     /// The SMF is asked something of a subscriber.
-    pub fn ask(&mut self, call: SmfAsk, s: &Subscriber) -> Result<(), Memory>
+    pub fn ask(&mut self, call: SmfAsk, s: &Record) -> Result<(), Memory>
         ensures { OnOk result (self.new ≡ by (ask call s.now) self.old) }
     {
         let supi = s.supi.copy();

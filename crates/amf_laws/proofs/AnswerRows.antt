@@ -27,7 +27,7 @@ use Rattle.amf_core.specs.declared.procedures.Procedure.TheVariants as procedure
 use Rattle.amf_core.specs.declared.procedures.Purpose.{Purpose}
 use Rattle.amf_core.specs.declared.procedures.Purpose.TheVariants.{Registration, Command}
 use Rattle.amf_core.specs.declared.security_mode.Commanding.{Commanding}
-use Rattle.amf_core.specs.declared.subscriber.Subscriber.{Subscriber}
+use Rattle.amf_core.specs.declared.subscriber.Record.{Record}
 use Rattle.nas_base.proofs.Branching.{per_holds, when_holds}
 use Rattle.amf_laws.proofs.ChallengeRows.{MayRefuse, challenge_put_moves, challenge_runs, challenge_settles, ended_moves, say_on_moves, stopped_moves}
 use Rattle.amf_laws.proofs.LinkRecords.{same_number}
@@ -44,11 +44,11 @@ asking_runs number procedures.Idle o e = absurd (cc)
 asking_runs number (procedures.Accepting a) o e = absurd (cc)
 asking_runs number (procedures.Deregistering d) o e = absurd (cc)
 
-rejected_moves : {May : List ℕ → Type 0} {b : Beginning} {q : Running} {w : Work} (number : ℕ) (s : Subscriber) → Own May b s
+rejected_moves : {May : List ℕ → Type 0} {b : Beginning} {q : Running} {w : Work} (number : ℕ) (s : Record) → Own May b s
     → Moves May b (running_in s.procedure) q w → Moves May b none_runs none_runs (authentication_rejected number s w)
 rejected_moves {May} {b} {q} {w} number s e h = said number _ _ (by_link_may May (link_of number (ended s w)) s.supi e.2) (ended_moves s e h)
 
-answered_settles : {May : List ℕ → Type 0} {b : Beginning} {w : Work} (m : AuthenticationResponse) (number : ℕ) (o : Asking) (s : Subscriber) → Own May b s
+answered_settles : {May : List ℕ → Type 0} {b : Beginning} {w : Work} (m : AuthenticationResponse) (number : ℕ) (o : Asking) (s : Record) → Own May b s
     → running_in s.procedure ≡ challenge_runs
     → Moves May b (running_in s.procedure) (running_in s.procedure) w → Settled May b (answered m number o s w)
 answered_settles {May} {b} {w} m number o s e runs h =
@@ -56,7 +56,7 @@ answered_settles {May} {b} {w} m number o s e runs h =
     (λ _. settled (challenge_put_moves (commanding o) (challenge_open (commanding o) s) e (told_as _ challenge_runs runs h)))
     (λ _. settled (rejected_moves number s e h))
 
-pub responded_settles : {May : List ℕ → Type 0} {b : Beginning} {w : Work} (m : AuthenticationResponse) (number : ℕ) (s : Subscriber) → Own May b s
+pub responded_settles : {May : List ℕ → Type 0} {b : Beginning} {w : Work} (m : AuthenticationResponse) (number : ℕ) (s : Record) → Own May b s
     → Moves May b (running_in s.procedure) (running_in s.procedure) w → Settled May b (responded m number s w)
 unfolding responded
 responded_settles {May} {b} {w} m number s e h =
@@ -91,19 +91,19 @@ asking_link_is number procedures.Idle o = λ is k link. absurd (cc)
 asking_link_is number (procedures.Accepting a) o = λ is k link. absurd (cc)
 asking_link_is number (procedures.Deregistering d) o = λ is k link. absurd (cc)
 
-again_may : (May : List ℕ → Type 0) (number : ℕ) (records : List Link) (purpose : Purpose) (c : Challenging) (s : Subscriber)
+again_may : (May : List ℕ → Type 0) (number : ℕ) (records : List Link) (purpose : Purpose) (c : Challenging) (s : Record)
     → ((k : ℕ) → c.link ≡ Some k → k ≡ number) → MayLink May number records → MayRefuse May purpose (next_link purpose c s) records
 again_may May number records (Registration request) c s same link =
     λ k e. subst (λ (n : ℕ). MayLink May n records) (sym (same k e)) link
 again_may May number records Command c s same link = tt
 
-resynchronised_settles : {May : List ℕ → Type 0} {b : Beginning} {w : Work} (auts : List ℕ) (o : Asking) (s : Subscriber) → Own May b s
+resynchronised_settles : {May : List ℕ → Type 0} {b : Beginning} {w : Work} (auts : List ℕ) (o : Asking) (s : Record) → Own May b s
     → MayRefuse May o.challenging.purpose (next_link o.challenging.purpose o.challenging s) (links_now w) → Moves May b (running_in s.procedure) (running_in s.procedure) w → Settled May b (resynchronised auts o s w)
 resynchronised_settles {May} {b} {w} auts o s e may h =
     when_holds (λ (x : Work). Settled May b x) (is_right (resync_of s.supi o.auth.challenge.rand auts w.home)) _ w
     (λ _. challenge_settles _ _ None s e may (homes _ h)) (λ _. settled h)
 
-failed_by_settles : {May : List ℕ → Type 0} {b : Beginning} {w : Work} (m : AuthenticationFailure) (number : ℕ) (o : Asking) (s : Subscriber) → Own May b s
+failed_by_settles : {May : List ℕ → Type 0} {b : Beginning} {w : Work} (m : AuthenticationFailure) (number : ℕ) (o : Asking) (s : Record) → Own May b s
     → MayRefuse May o.challenging.purpose (next_link o.challenging.purpose o.challenging s) (links_now w)
     → Moves May b (running_in s.procedure) (running_in s.procedure) w → Settled May b (failed_by m number o s w)
 failed_by_settles {May} {b} {w} m number o s e may h =
@@ -114,7 +114,7 @@ failed_by_settles {May} {b} {w} m number o s e may h =
     (λ _. when_holds (λ (x : Work). Settled May b x) (m.cause == cause.NGKSI_ALREADY_IN_USE) _ w
     (λ _. challenge_settles _ _ None s e may h) (λ _. settled h)))
 
-pub failed_settles : {May : List ℕ → Type 0} {b : Beginning} {w : Work} (m : AuthenticationFailure) (number : ℕ) (s : Subscriber) → Own May b s
+pub failed_settles : {May : List ℕ → Type 0} {b : Beginning} {w : Work} (m : AuthenticationFailure) (number : ℕ) (s : Record) → Own May b s
     → MayLink May number (links_now w) → Moves May b (running_in s.procedure) (running_in s.procedure) w → Settled May b (authentication_failed m number s w)
 unfolding authentication_failed
 failed_settles {May} {b} {w} m number s e link h =
@@ -123,23 +123,23 @@ failed_settles {May} {b} {w} m number s e link h =
     (again_may May number (links_now w) o.challenging.purpose o.challenging s (asking_link_is number s.procedure o is) link) h)
 
 -- the answers to SECURITY MODE COMMAND
-pub mode_rejected_settles : {May : List ℕ → Type 0} {b : Beginning} {w : Work} (number : ℕ) (s : Subscriber) → Own May b s
+pub mode_rejected_settles : {May : List ℕ → Type 0} {b : Beginning} {w : Work} (number : ℕ) (s : Record) → Own May b s
     → Moves May b (running_in s.procedure) (running_in s.procedure) w → Settled May b (mode_rejected number s w)
 unfolding mode_rejected
 mode_rejected_settles {May} {b} {w} number s e h =
     per_holds (λ (x : Work). Settled May b x) (commanding_on number s.procedure) w _ (λ _. settled h) (λ o _. settled (ended_moves s e h))
 
-switched_moves : {May : List ℕ → Type 0} {b : Beginning} {q : Running} {w : Work} (o : Commanding) (s : Subscriber) → Own May b s
+switched_moves : {May : List ℕ → Type 0} {b : Beginning} {q : Running} {w : Work} (o : Commanding) (s : Record) → Own May b s
     → Moves May b (running_in s.procedure) q w → Moves May b none_runs none_runs (switched o s w)
 switched_moves o s e h = asked _ s (puts (in_use o.context s) e (stopped_moves s e h))
 
-purpose_settles : {May : List ℕ → Type 0} {b : Beginning} {w : Work} (purpose : Purpose) (whole : Option Whole) (number : ℕ) (context : SecurityContext) (s : Subscriber)
+purpose_settles : {May : List ℕ → Type 0} {b : Beginning} {w : Work} (purpose : Purpose) (whole : Option Whole) (number : ℕ) (context : SecurityContext) (s : Record)
     → Own May b s → Moves May b none_runs none_runs w → Settled May b (goes_on purpose whole number context s w)
 purpose_settles {May} {b} {w} (Registration r) whole number context s e h =
     per_holds (λ (x : Work). Settled May b x) whole w _ (λ _. settled h) (λ q _. goes_on_settles number r q context s e h)
 purpose_settles Command whole number context s e h = settled h
 
-pub mode_completed_settles : {May : List ℕ → Type 0} {b : Beginning} {w : Work} (m : SecurityModeComplete) (number : ℕ) (s : Subscriber) → Own May b s
+pub mode_completed_settles : {May : List ℕ → Type 0} {b : Beginning} {w : Work} (m : SecurityModeComplete) (number : ℕ) (s : Record) → Own May b s
     → Moves May b (running_in s.procedure) (running_in s.procedure) w → Settled May b (mode_completed m number s w)
 unfolding mode_completed
 mode_completed_settles {May} {b} {w} m number s e h =
@@ -147,20 +147,20 @@ mode_completed_settles {May} {b} {w} m number s e h =
     (λ o _. purpose_settles o.challenging.purpose (whole_in m.message s) number o.context (in_use o.context s) e (switched_moves o s e h))
 
 -- service requests, and 5GSM messages
-pub service_settles : {May : List ℕ → Type 0} {b : Beginning} {w : Work} (number : ℕ) (s : Subscriber) → Own May b s
+pub service_settles : {May : List ℕ → Type 0} {b : Beginning} {w : Work} (number : ℕ) (s : Record) → Own May b s
     → Moves May b (running_in s.procedure) (running_in s.procedure) w → Settled May b (service_requested number s w)
 unfolding service_requested
 service_settles {May} {b} {w} number s e h =
     when_holds (λ (x : Work). Settled May b x) s.registered _ _ (λ _. settled (said number (Ciphered s.supi) _ e.2 h))
     (λ _. settled (said number _ _ (by_link_may May (link_of number w) s.supi e.2) h))
 
-pub transported_settles : {May : List ℕ → Type 0} {b : Beginning} {w : Work} (m : UlNasTransport) (number : ℕ) (challenge : Challenge) (s : Subscriber) → Own May b s
+pub transported_settles : {May : List ℕ → Type 0} {b : Beginning} {w : Work} (m : UlNasTransport) (number : ℕ) (challenge : Challenge) (s : Record) → Own May b s
     → Moves May b (running_in s.procedure) (running_in s.procedure) w → Settled May b (transported m number challenge s w)
 unfolding transported
 transported_settles {May} {b} {w} m number challenge s e h =
     per_holds (λ (x : Work). Settled May b x) (session_of m.container_type m.psi) _ _ (λ _. settled (said number (Ciphered s.supi) _ e.2 h)) (λ n _. settled (asked _ s h))
 
-pub brought_down_moves : {May : List ℕ → Type 0} {b : Beginning} {p q : Running} {w : Work} (psi : ℕ) (frame : List ℕ) (s : Subscriber) → Own May b s
+pub brought_down_moves : {May : List ℕ → Type 0} {b : Beginning} {p q : Running} {w : Work} (psi : ℕ) (frame : List ℕ) (s : Record) → Own May b s
     → Moves May b p q w → Moves May b p q (brought_down psi frame s w)
 unfolding brought_down
 brought_down_moves psi frame s e h = say_on_moves s.link (Ciphered s.supi) _ e.2 h

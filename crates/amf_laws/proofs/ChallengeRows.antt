@@ -18,7 +18,7 @@ use Rattle.amf_core.specs.declared.procedures.Procedure.{Procedure}
 use Rattle.amf_core.specs.declared.procedures.Procedure.TheVariants as procedures
 use Rattle.amf_core.specs.declared.procedures.Purpose.{Purpose}
 use Rattle.amf_core.specs.declared.procedures.Purpose.TheVariants.{Registration, Command}
-use Rattle.amf_core.specs.declared.subscriber.Subscriber.{Subscriber}
+use Rattle.amf_core.specs.declared.subscriber.Record.{Record}
 use Rattle.nas_base.proofs.Branching.{per_holds}
 use Rattle.amf_laws.proofs.Moves.{Beginning, MayLink, MayProtect, Own, by_link_may, links_now, own_protection_may, Moves, Settled, settled}
 use Rattle.amf_laws.proofs.Moves.Moves.{said, starts, stops, puts, links, homes}
@@ -29,19 +29,19 @@ abbrev pub challenge_runs : Running
 challenge_runs = with_timer T3560 true none_runs
 
 -- a procedure that ends
-stopped_of_moves : {May : List ℕ → Type 0} {b : Beginning} {q : Running} {w : Work} (procedure : Procedure) (s : Subscriber) → Own May b s
+stopped_of_moves : {May : List ℕ → Type 0} {b : Beginning} {q : Running} {w : Work} (procedure : Procedure) (s : Record) → Own May b s
     → Moves May b (running_in procedure) q w → Moves May b none_runs q (stopped_of procedure s w)
 stopped_of_moves procedures.Idle s e h = h
 stopped_of_moves (procedures.Challenging c) s e h = stops T3560 s e h
 stopped_of_moves (procedures.Accepting a) s e h = stops T3550 s e h
 stopped_of_moves (procedures.Deregistering d) s e h = stops T3522 s e h
 
-pub stopped_moves : {May : List ℕ → Type 0} {b : Beginning} {q : Running} {w : Work} (s : Subscriber) → Own May b s
+pub stopped_moves : {May : List ℕ → Type 0} {b : Beginning} {q : Running} {w : Work} (s : Record) → Own May b s
     → Moves May b (running_in s.procedure) q w → Moves May b none_runs q (stopped s w)
 unfolding stopped
 stopped_moves s e h = stopped_of_moves s.procedure s e h
 
-pub ended_moves : {May : List ℕ → Type 0} {b : Beginning} {q : Running} {w : Work} (s : Subscriber) → Own May b s
+pub ended_moves : {May : List ℕ → Type 0} {b : Beginning} {q : Running} {w : Work} (s : Record) → Own May b s
     → Moves May b (running_in s.procedure) q w → Moves May b none_runs none_runs (ended s w)
 unfolding ended
 ended_moves s e h = puts (idle s) e (stopped_moves s e h)
@@ -53,19 +53,19 @@ say_on_moves {May} {b} {p} {q} {w} link protection message may h =
     per_holds (λ (x : Work). Moves May b p q x) link w _ (λ _. h) (λ number _. said number protection message may h)
 
 -- what is sent of a challenge
-phase_moves : {May : List ℕ → Type 0} {b : Beginning} {p q : Running} {w : Work} (phase : Phase) (c : Challenging) (s : Subscriber) → May s.supi
+phase_moves : {May : List ℕ → Type 0} {b : Beginning} {p q : Running} {w : Work} (phase : Phase) (c : Challenging) (s : Record) → May s.supi
     → Moves May b p q w → Moves May b p q (phase_sent phase c s w)
 phase_moves {May} {b} {p} {q} {w} (Auth a) c s may h =
     per_holds (λ (x : Work). Moves May b p q x) c.link w _ (λ _. h)
     (λ number _. said number _ _ (by_link_may May (link_of number w) s.supi may) h)
 phase_moves (Mode context) c s may h = say_on_moves c.link (IntegrityProtectedWithNewContext s.supi) _ may h
 
-challenge_sent_moves : {May : List ℕ → Type 0} {b : Beginning} {p q : Running} {w : Work} (c : Challenging) (s : Subscriber) → May s.supi
+challenge_sent_moves : {May : List ℕ → Type 0} {b : Beginning} {p q : Running} {w : Work} (c : Challenging) (s : Record) → May s.supi
     → Moves May b p q w → Moves May b p q (challenge_sent c s w)
 unfolding challenge_sent
 challenge_sent_moves c s may h = phase_moves c.phase c s may h
 
-pub challenge_put_moves : {May : List ℕ → Type 0} {b : Beginning} {p q : Running} {w : Work} (c : Challenging) (s : Subscriber) → Own May b s
+pub challenge_put_moves : {May : List ℕ → Type 0} {b : Beginning} {p q : Running} {w : Work} (c : Challenging) (s : Record) → Own May b s
     → Moves May b p q w → Moves May b (with_timer T3560 true p) (running_in s.procedure) (challenge_put c s w)
 challenge_put_moves c s e h = starts T3560 s e (challenge_sent_moves c s e.2 (puts s e h))
 
@@ -74,7 +74,7 @@ claimed_moves : {May : List ℕ → Type 0} {b : Beginning} {p q : Running} {w :
 claimed_moves {May} {b} {p} {q} {w} link supi h =
     per_holds (λ (x : Work). Moves May b p q x) link w _ (λ _. h) (λ number _. links number (Some supi) _ h)
 
-begun_moves : {May : List ℕ → Type 0} {b : Beginning} {q : Running} {w : Work} (purpose : Purpose) (link : Option ℕ) (v : Vector) (s : Subscriber) → Own May b s
+begun_moves : {May : List ℕ → Type 0} {b : Beginning} {q : Running} {w : Work} (purpose : Purpose) (link : Option ℕ) (v : Vector) (s : Record) → Own May b s
     → Moves May b none_runs q w → Moves May b challenge_runs challenge_runs (challenge_begun purpose link v s w)
 unfolding challenge_begun
 begun_moves {May} {b} {q} {w} purpose link v s e h =
@@ -94,12 +94,12 @@ refused_moves {May} {b} {p} {q} {w} (Registration request) link may h =
     (λ number is. said number _ _ (own_protection_may May (link_of number w) (may number is)) h)
 refused_moves Command link may h = h
 
-told_own : (May : List ℕ → Type 0) (b : Beginning) (capability : Option (List ℕ)) (s : Subscriber) → Own May b s
+told_own : (May : List ℕ → Type 0) (b : Beginning) (capability : Option (List ℕ)) (s : Record) → Own May b s
     → Own May b (told capability s)
-told_own May b capability s e = per_holds (λ (x : Subscriber). Own May b x) capability s _ (λ _. e) (λ _ _. e)
+told_own May b capability s e = per_holds (λ (x : Record). Own May b x) capability s _ (λ _. e) (λ _ _. e)
 
 by_vector_settles : {May : List ℕ → Type 0} {b : Beginning} {q : Running} {w : Work} (answer : Result Vector HomeRefusal) (purpose : Purpose)
-    (link : Option ℕ) (capability : Option (List ℕ)) (s : Subscriber) → Own May b s → MayRefuse May purpose link (links_now w)
+    (link : Option ℕ) (capability : Option (List ℕ)) (s : Record) → Own May b s → MayRefuse May purpose link (links_now w)
     → Moves May b none_runs q w → Settled May b (by_vector answer purpose link capability s w)
 unfolding put
 by_vector_settles {May} {b} (Ok v) purpose link capability s e may h =
@@ -108,23 +108,23 @@ by_vector_settles (Err refusal) purpose link capability s e may h = settled (ref
 
 -- a challenge where nothing is open, and where something is
 pub challenge_next_settles : {May : List ℕ → Type 0} {b : Beginning} {q : Running} {w : Work} (purpose : Purpose) (link : Option ℕ)
-    (capability : Option (List ℕ)) (s : Subscriber) → Own May b s → MayRefuse May purpose link (links_now w)
+    (capability : Option (List ℕ)) (s : Record) → Own May b s → MayRefuse May purpose link (links_now w)
     → Moves May b none_runs q w → Settled May b (challenge_next purpose link capability s w)
 challenge_next_settles {May} {b} {q} {w} purpose link capability s e may h =
     by_vector_settles (challenge_of s.supi w.rand w.home) purpose link capability s e may (homes (challenged s.supi w.rand w.home) h)
 
-stopped_of_stays : (procedure : Procedure) (s : Subscriber) (w : Work) → (stopped_of procedure s w).amf ≡ w.amf
+stopped_of_stays : (procedure : Procedure) (s : Record) (w : Work) → (stopped_of procedure s w).amf ≡ w.amf
 stopped_of_stays procedures.Idle s w = refl
 stopped_of_stays (procedures.Challenging c) s w = refl
 stopped_of_stays (procedures.Accepting a) s w = refl
 stopped_of_stays (procedures.Deregistering d) s w = refl
 
-stopped_links : (s : Subscriber) (w : Work) → links_now (stopped s w) ≡ links_now w
+stopped_links : (s : Record) (w : Work) → links_now (stopped s w) ≡ links_now w
 unfolding stopped
 stopped_links s w = ap (λ (a : AmfState). a.links) (stopped_of_stays s.procedure s w)
 
 pub challenge_settles : {May : List ℕ → Type 0} {b : Beginning} {q : Running} {w : Work} (purpose : Purpose) (link : Option ℕ)
-    (capability : Option (List ℕ)) (s : Subscriber) → Own May b s → MayRefuse May purpose link (links_now w)
+    (capability : Option (List ℕ)) (s : Record) → Own May b s → MayRefuse May purpose link (links_now w)
     → Moves May b (running_in s.procedure) q w → Settled May b (challenge purpose link capability s w)
 unfolding challenge
 challenge_settles {May} {b} {q} {w} purpose link capability s e may h =

@@ -28,7 +28,7 @@ use Rattle.amf_core.specs.Service.{service_refused}
 use Rattle.amf_core.specs.Work.{Work, answer, link_of, put, put_link, subscriber_of_link}
 use Rattle.amf_core.specs.declared.checks.Check.{Check}
 use Rattle.amf_core.specs.declared.requests.Request.{Request}
-use Rattle.amf_core.specs.declared.subscriber.Subscriber.{Subscriber}
+use Rattle.amf_core.specs.declared.subscriber.Record.{Record}
 use Rattle.amf_laws.proofs.AnswerRows.{failed_settles, mode_completed_settles, mode_rejected_settles, responded_settles, service_settles, transported_settles}
 use Rattle.nas_base.proofs.Branching.{per_holds, when_holds}
 use Rattle.amf_laws.proofs.Chains.{Chain, IsChecked, IsCurrent, Received, found_is_current, keeper_is_current, link_is_current, short_keeper_is_current}
@@ -40,15 +40,15 @@ use Rattle.amf_laws.proofs.Moves.Moves.{here}
 use Rattle.amf_laws.proofs.RegistrationRows.{completed_settles, deregistration_accepted_settles, deregistration_requested_settles, requested_settles}
 
 -- whom an identity names, of those that a request's row looks for
-abbrev pub names : Identity → Work → Option Subscriber
+abbrev pub names : Identity → Work → Option Record
 names (identities.Suci x) w = named_by_suci x w
 names (identities.Guti g) w = keeper g w
 names (identities.Stmsi t) w = None
 names (identities.Other octets) w = None
 
 -- those that may link have a row are those that a message names, or the one itself
-abbrev pub MayNamed : (List ℕ → Type 0) → Option Subscriber → Type 0
-MayNamed May found = (s : Subscriber) → found ≡ Some s → May s.supi
+abbrev pub MayNamed : (List ℕ → Type 0) → Option Record → Type 0
+MayNamed May found = (s : Record) → found ≡ Some s → May s.supi
 
 -- an answer on a link
 answers : {May : List ℕ → Type 0} {u : Received} {w : Work} (number : ℕ) (message : Mm) → MayLink May number (links_now w) → Chain May u w
@@ -64,15 +64,15 @@ waits_link May number waiting w link = λ supi e.
     (put_supi (record (link_of number w) { waiting = waiting }) number w.amf.links supi
     (link_is_own number (links_now w)) e)
 
-by_suci_chain : {May : List ℕ → Type 0} {u : Received} {w : Work} (number : ℕ) (passed : Option (List ℕ)) (r : Request) (found : Option Subscriber)
-    → ((s : Subscriber) → found ≡ Some s → IsCurrent s w) → MayNamed May found → MayLink May number (links_now w)
+by_suci_chain : {May : List ℕ → Type 0} {u : Received} {w : Work} (number : ℕ) (passed : Option (List ℕ)) (r : Request) (found : Option Record)
+    → ((s : Record) → found ≡ Some s → IsCurrent s w) → MayNamed May found → MayLink May number (links_now w)
     → Chain May u w → Chain May u (request_by_suci number passed r found w)
 by_suci_chain {May} {u} {w} number passed r found is may link h =
     per_holds (λ (x : Work). Chain May u x) found _ _ (λ _. answers number _ link h)
     (λ s e. does s (is s e) (may s e) (requested_settles number passed r s (refl, λ few. few, may s e) link here) h)
 
-by_guti_chain : {May : List ℕ → Type 0} {u : Received} {w : Work} (number : ℕ) (passed : Option (List ℕ)) (r : Request) (found : Option Subscriber)
-    → ((s : Subscriber) → found ≡ Some s → IsCurrent s w) → MayNamed May found → MayLink May number (links_now w)
+by_guti_chain : {May : List ℕ → Type 0} {u : Received} {w : Work} (number : ℕ) (passed : Option (List ℕ)) (r : Request) (found : Option Record)
+    → ((s : Record) → found ≡ Some s → IsCurrent s w) → MayNamed May found → MayLink May number (links_now w)
     → Chain May u w → Chain May u (request_by_guti number passed r found w)
 by_guti_chain {May} {u} {w} number passed r found is may link h =
     per_holds (λ (x : Work). Chain May u x) found _ _ (λ _. answers number _ (waits_link May number (Some r) w link) (waits number _ (Some r) h))
@@ -120,7 +120,7 @@ unfolding identity_told
 identity_chain m number may link h = told_chain m.identity number may link h
 
 -- whom a message names, of those that its row looks for
-abbrev pub named_by : Mm → Work → Option Subscriber
+abbrev pub named_by : Mm → Work → Option Record
 named_by (mm.RegistrationRequest m) w = names m.identity w
 named_by (mm.IdentityResponse m) w = names m.identity w
 named_by message w = None
@@ -183,7 +183,7 @@ by_table_chain Status43 number c m is may named link h = h
 by_table_chain Status47 number c m is may named link h = h
 
 -- whom what was read names
-abbrev pub named_in : Result Mm MmRefusal → Work → Option Subscriber
+abbrev pub named_in : Result Mm MmRefusal → Work → Option Record
 named_in (Ok m) w = named_by m w
 named_in (Err refusal) w = None
 
@@ -199,7 +199,7 @@ read_chain {May} {u} {w} (Err (refusals.Mandatory n at)) octets number c is may 
 read_chain (Err refusals.Memory) octets number c is may named link h = h
 
 -- those that may have a row where octets passed: the subscriber that they were checked for, and whom the message names
-pub record MayPass (May : List ℕ → Type 0) (number : ℕ) (octets : List ℕ) (s : Subscriber) (w : Work) : Type 0 where
+pub record MayPass (May : List ℕ → Type 0) (number : ℕ) (octets : List ℕ) (s : Record) (w : Work) : Type 0 where
   pub itself : (p : Passage) → IsChecked number octets s p → May s.supi
   pub named : (p : Passage) → IsChecked number octets s p → MayNamed May (named_in (mm_in p.message) (noted number p.check w))
 
@@ -213,7 +213,7 @@ noted_link May number p w may = λ supi e.
     (link_is_own number (links_now w)) e in
     let one : p.check.subscriber.supi ≡ supi = cc in subst May one may
 
-passing_chain : {May : List ℕ → Type 0} (u : Received) (s : Subscriber) (p : Passage) → IsCurrent s u.first → MayPass May u.number u.octets s u.first → IsChecked u.number u.octets s p
+passing_chain : {May : List ℕ → Type 0} (u : Received) (s : Record) (p : Passage) → IsCurrent s u.first → MayPass May u.number u.octets s u.first → IsChecked u.number u.octets s p
     → Chain May u (passing u.number p u.first)
 unfolding passed put put_link
 passing_chain {May} u s p is may checked =
@@ -222,31 +222,31 @@ passing_chain {May} u s p is may checked =
     (may.named p checked) (noted_link May u.number p u.first itself) (passes s p is (may.itself p checked) checked)
 
 -- header type 2, and 1 where it passes
-by_check_chain : {May : List ℕ → Type 0} (u : Received) (found : Option Subscriber) (p : Passage)
-    → ((s : Subscriber) → found ≡ Some s → IsCurrent s u.first)
-    → ((s : Subscriber) → found ≡ Some s → MayPass May u.number u.octets s u.first)
+by_check_chain : {May : List ℕ → Type 0} (u : Received) (found : Option Record) (p : Passage)
+    → ((s : Record) → found ≡ Some s → IsCurrent s u.first)
+    → ((s : Record) → found ≡ Some s → MayPass May u.number u.octets s u.first)
     → check_of found u.number u.octets ≡ Some p → Chain May u (passing u.number p u.first)
 by_check_chain {May} u found p is may =
     per_holds (λ (x : Option Passage). x ≡ Some p → Chain May u (passing u.number p u.first)) found None _
     (λ _ e. absurd (cc))
     (λ s has e. passing_chain u s p (is s has) (may s has) (inl e))
 
-in_use_chain : {May : List ℕ → Type 0} (u : Received) (found : Option Subscriber) (without : Work)
-    → ((s : Subscriber) → found ≡ Some s → IsCurrent s u.first)
-    → ((s : Subscriber) → found ≡ Some s → MayPass May u.number u.octets s u.first) → Chain May u without
+in_use_chain : {May : List ℕ → Type 0} (u : Received) (found : Option Record) (without : Work)
+    → ((s : Record) → found ≡ Some s → IsCurrent s u.first)
+    → ((s : Record) → found ≡ Some s → MayPass May u.number u.octets s u.first) → Chain May u without
     → Chain May u (per (check_of found u.number u.octets) without (λ (p : Passage). passing u.number p u.first))
 in_use_chain {May} u found without is may other =
     per_holds (λ (x : Work). Chain May u x) (check_of found u.number u.octets) without _ (λ _. other)
     (λ p e. by_check_chain u found p is may e)
 
-ciphered_chain : {May : List ℕ → Type 0} (u : Received) → ((s : Subscriber) → subscriber_of_link u.number u.first ≡ Some s → MayPass May u.number u.octets s u.first)
+ciphered_chain : {May : List ℕ → Type 0} (u : Received) → ((s : Record) → subscriber_of_link u.number u.first ≡ Some s → MayPass May u.number u.octets s u.first)
     → Chain May u (ciphered u.number u.octets u.first)
 unfolding ciphered
 ciphered_chain u may =
     in_use_chain u (subscriber_of_link u.number u.first) u.first (link_is_current u.number u.first) may nothing
 
 -- header type 4
-new_context_chain : {May : List ℕ → Type 0} (u : Received) → ((s : Subscriber) → subscriber_of_link u.number u.first ≡ Some s → MayPass May u.number u.octets s u.first)
+new_context_chain : {May : List ℕ → Type 0} (u : Received) → ((s : Record) → subscriber_of_link u.number u.first ≡ Some s → MayPass May u.number u.octets s u.first)
     → Chain May u (under_new_context u.number u.octets u.first)
 unfolding under_new_context
 new_context_chain {May} u may =
@@ -257,15 +257,15 @@ new_context_chain {May} u may =
     (λ p e. passing_chain u s p (link_is_current u.number u.first s has) (may s has) (inr e)))
 
 -- a plain message
-of_link_chain : {May : List ℕ → Type 0} {u : Received} {w : Work} (number : ℕ) (row : Subscriber → Work → Work)
-    → ((s : Subscriber) → subscriber_of_link number w ≡ Some s → May s.supi)
-    → ((s : Subscriber) → May s.supi → Settled May (begins s w) (row s w)) → MayLink May number (links_now w)
+of_link_chain : {May : List ℕ → Type 0} {u : Received} {w : Work} (number : ℕ) (row : Record → Work → Work)
+    → ((s : Record) → subscriber_of_link number w ≡ Some s → May s.supi)
+    → ((s : Record) → May s.supi → Settled May (begins s w) (row s w)) → MayLink May number (links_now w)
     → Chain May u w → Chain May u (of_link number row w)
 of_link_chain {May} {u} {w} number row may done link h =
     per_holds (λ (x : Work). Chain May u x) (subscriber_of_link number w) w _ (λ _. h)
     (λ s e. does s (link_is_current number w s e) (may s e) (done s (may s e)) h)
 
-taken_plain_chain : {May : List ℕ → Type 0} {u : Received} {w : Work} (number : ℕ) (m : Mm) → ((s : Subscriber) → subscriber_of_link number w ≡ Some s → May s.supi) → MayNamed May (named_by m w) → MayLink May number (links_now w)
+taken_plain_chain : {May : List ℕ → Type 0} {u : Received} {w : Work} (number : ℕ) (m : Mm) → ((s : Record) → subscriber_of_link number w ≡ Some s → May s.supi) → MayNamed May (named_by m w) → MayLink May number (links_now w)
     → Chain May u w → Chain May u (taken_plain number m w)
 unfolding taken_plain service_refused
 taken_plain_chain number (mm.RegistrationRequest m) may named link h =
@@ -300,7 +300,7 @@ taken_plain_chain number (mm.FiveGmmStatus m) may named link h = h
 taken_plain_chain number (mm.DlNasTransport m) may named link h = h
 
 plain_read_chain : {May : List ℕ → Type 0} {u : Received} {w : Work} (read : Result Mm MmRefusal) (number : ℕ) (octets : List ℕ)
-    → ((s : Subscriber) → subscriber_of_link number w ≡ Some s → May s.supi)
+    → ((s : Record) → subscriber_of_link number w ≡ Some s → May s.supi)
     → MayNamed May (named_in read w) → MayLink May number (links_now w)
     → Chain May u w → Chain May u (plain_read read number octets w)
 plain_read_chain {May} {u} {w} (Ok m) number octets may named link h =
@@ -313,7 +313,7 @@ plain_read_chain {May} {u} {w} (Err (refusals.Mandatory n at)) number octets may
 plain_read_chain (Err refusals.Memory) number octets may named link h = h
 
 plain_chain : {May : List ℕ → Type 0} {u : Received} {w : Work} (number : ℕ) (octets : List ℕ)
-    → ((s : Subscriber) → subscriber_of_link number w ≡ Some s → May s.supi)
+    → ((s : Record) → subscriber_of_link number w ≡ Some s → May s.supi)
     → MayNamed May (named_in (mm_in octets) w) → MayLink May number (links_now w)
     → Chain May u w → Chain May u (plain number octets w)
 unfolding plain
@@ -322,7 +322,7 @@ plain_chain {May} {u} {w} number octets may named link h =
     (λ _. plain_read_chain (mm_in octets) number octets may named link h)
 
 -- header type 1
-abbrev pub named_if : Option Mm → Work → Option Subscriber
+abbrev pub named_if : Option Mm → Work → Option Record
 named_if None w = None
 named_if (Some m) w = named_by m w
 
@@ -346,33 +346,33 @@ failed_chain {May} {u} {w} number (Some m) named link h =
     let one : m ≡ y = cc in
     failed_request_chain number y (subst (λ (z : Mm). MayNamed May (named_by z w)) one named) link h))
 
-kept_for_is_current : (identity : Identity) (w : Work) (s : Subscriber) → kept_for identity w ≡ Some s → IsCurrent s w
+kept_for_is_current : (identity : Identity) (w : Work) (s : Record) → kept_for identity w ≡ Some s → IsCurrent s w
 kept_for_is_current (identities.Guti g) w s e = keeper_is_current g w s e
 kept_for_is_current (identities.Stmsi t) w s e = short_keeper_is_current t w s e
 kept_for_is_current (identities.Suci x) w s e = absurd (cc)
 kept_for_is_current (identities.Other octets) w s e = absurd (cc)
 
-inside_is_current : (m : Option Mm) (w : Work) (s : Subscriber) → named_inside m w ≡ Some s → IsCurrent s w
+inside_is_current : (m : Option Mm) (w : Work) (s : Record) → named_inside m w ≡ Some s → IsCurrent s w
 inside_is_current None w s e = absurd (cc)
 inside_is_current (Some (mm.RegistrationRequest m)) w s e = kept_for_is_current m.identity w s e
 inside_is_current (Some (mm.ServiceRequest m)) w s e = kept_for_is_current m.identity w s e
 inside_is_current (Some (mm.DeregistrationRequestUeOriginating m)) w s e = kept_for_is_current m.identity w s e
 inside_is_current (Some message) w s e = absurd (cc)
 
-pub sender_is_current : (number : ℕ) (m : Option Mm) (w : Work) (s : Subscriber) → sender number m w ≡ Some s → IsCurrent s w
+pub sender_is_current : (number : ℕ) (m : Option Mm) (w : Work) (s : Record) → sender number m w ≡ Some s → IsCurrent s w
 sender_is_current number m w s =
-    per_holds (λ (x : Option Subscriber). x ≡ Some s → IsCurrent s w) (named_inside m w) (subscriber_of_link number w) _
+    per_holds (λ (x : Option Record). x ≡ Some s → IsCurrent s w) (named_inside m w) (subscriber_of_link number w) _
     (λ _ e. link_is_current number w s e)
-    (λ y is e. let one : y ≡ s = cc in inside_is_current m w s (is ∙ ap (λ (z : Subscriber). Some z) one))
+    (λ y is e. let one : y ≡ s = cc in inside_is_current m w s (is ∙ ap (λ (z : Record). Some z) one))
 
 -- those that may have a row where octets come up a link
 pub record MayReceive (May : List ℕ → Type 0) (u : Received) : Type 0 where
   pub link : MayLink May u.number (links_now u.first)
-  pub linked : (s : Subscriber) → subscriber_of_link u.number u.first ≡ Some s → May s.supi
-  pub passing : (s : Subscriber) → subscriber_of_link u.number u.first ≡ Some s → MayPass May u.number u.octets s u.first
+  pub linked : (s : Record) → subscriber_of_link u.number u.first ≡ Some s → May s.supi
+  pub passing : (s : Record) → subscriber_of_link u.number u.first ≡ Some s → MayPass May u.number u.octets s u.first
   pub plain : MayNamed May (named_in (mm_in u.octets) u.first)
   pub inside : MayNamed May (named_if (message_of (mm_in (drop 7 u.octets))) u.first)
-  pub sent : (s : Subscriber) → sender u.number (message_of (mm_in (drop 7 u.octets))) u.first ≡ Some s → MayPass May u.number u.octets s u.first
+  pub sent : (s : Record) → sender u.number (message_of (mm_in (drop 7 u.octets))) u.first ≡ Some s → MayPass May u.number u.octets s u.first
 
 integrity_chain : {May : List ℕ → Type 0} (u : Received) → MayReceive May u → Chain May u (integrity_protected u.number u.octets u.first)
 unfolding integrity_protected

@@ -21,7 +21,7 @@ use Rattle.amf_core.specs.declared.procedures.Deregistering.{Deregistering}
 use Rattle.amf_core.specs.declared.procedures.Procedure.{Procedure}
 use Rattle.amf_core.specs.declared.procedures.Procedure.TheVariants as procedures
 use Rattle.amf_core.specs.declared.procedures.Purpose.TheVariants.{Command}
-use Rattle.amf_core.specs.declared.subscriber.Subscriber.{Subscriber}
+use Rattle.amf_core.specs.declared.subscriber.Record.{Record}
 use Rattle.nas_base.proofs.Branching.{when_holds}
 use Rattle.amf_laws.proofs.ChallengeRows.{challenge_next_settles, challenge_put_moves, challenge_settles, ended_moves, say_on_moves}
 use Rattle.amf_laws.proofs.Moves.{Beginning, Own, Moves, Settled, settled, told_as}
@@ -30,47 +30,47 @@ use Rattle.amf_laws.proofs.RegistrationRows.{deregistration_put_moves}
 use Rattle.amf_laws.specs.Timers.{Running, none_runs, running_in, with_timer}
 
 -- T3560, T3550 and T3522
-challenging_settles : {May : List ℕ → Type 0} {b : Beginning} {q : Running} {w : Work} (c : Challenging) (s : Subscriber) → Own May b s
+challenging_settles : {May : List ℕ → Type 0} {b : Beginning} {q : Running} {w : Work} (c : Challenging) (s : Record) → Own May b s
     → Moves May b none_runs q w → Settled May b (challenging_expired c s w)
 challenging_settles {May} {b} {q} {w} c s e h =
     when_holds (λ (x : Work). Settled May b x) (is_left c.sendings) _ _
     (λ _. settled (challenge_put_moves (challenge_again c) (challenge_open (challenge_again c) s) e h)) (λ _. settled (puts (idle s) e h))
 
-accepting_settles : {May : List ℕ → Type 0} {b : Beginning} {q : Running} {w : Work} (a : Accepting) (s : Subscriber) → Own May b s
+accepting_settles : {May : List ℕ → Type 0} {b : Beginning} {q : Running} {w : Work} (a : Accepting) (s : Record) → Own May b s
     → Moves May b none_runs q w → Settled May b (accepting_expired a s w)
 accepting_settles {May} {b} {q} {w} a s e h =
     when_holds (λ (x : Work). Settled May b x) (is_left a.sendings) _ _
     (λ _. settled (starts T3550 s e (say_on_moves s.link (Ciphered s.supi) _ e.2 (puts (record s { procedure = procedures.Accepting (acceptance_again a) }) e h))))
     (λ _. settled (puts (idle s) e h))
 
-deregistering_settles : {May : List ℕ → Type 0} {b : Beginning} {q : Running} {w : Work} (d : Deregistering) (s : Subscriber) → Own May b s
+deregistering_settles : {May : List ℕ → Type 0} {b : Beginning} {q : Running} {w : Work} (d : Deregistering) (s : Record) → Own May b s
     → Moves May b none_runs q w → Settled May b (deregistering_expired d s w)
 deregistering_settles {May} {b} {q} {w} d s e h =
     when_holds (λ (x : Work). Settled May b x) (is_left d.sendings) _ _
     (λ _. settled (deregistration_put_moves _ s e h)) (λ _. settled (asked _ s (puts (unregistered s) e h)))
 
-of_challenge_settles : {May : List ℕ → Type 0} {b : Beginning} {w : Work} (procedure : Procedure) (s : Subscriber) → Own May b s
+of_challenge_settles : {May : List ℕ → Type 0} {b : Beginning} {w : Work} (procedure : Procedure) (s : Record) → Own May b s
     → Moves May b (with_timer T3560 false (running_in procedure)) (running_in procedure) w → Settled May b (of_challenge procedure s w)
 of_challenge_settles (procedures.Challenging c) s e h = challenging_settles c s e h
 of_challenge_settles procedures.Idle s e h = settled h
 of_challenge_settles (procedures.Accepting a) s e h = settled h
 of_challenge_settles (procedures.Deregistering d) s e h = settled h
 
-of_acceptance_settles : {May : List ℕ → Type 0} {b : Beginning} {w : Work} (procedure : Procedure) (s : Subscriber) → Own May b s
+of_acceptance_settles : {May : List ℕ → Type 0} {b : Beginning} {w : Work} (procedure : Procedure) (s : Record) → Own May b s
     → Moves May b (with_timer T3550 false (running_in procedure)) (running_in procedure) w → Settled May b (of_acceptance procedure s w)
 of_acceptance_settles (procedures.Accepting a) s e h = accepting_settles a s e h
 of_acceptance_settles procedures.Idle s e h = settled h
 of_acceptance_settles (procedures.Challenging c) s e h = settled h
 of_acceptance_settles (procedures.Deregistering d) s e h = settled h
 
-of_deregistration_settles : {May : List ℕ → Type 0} {b : Beginning} {w : Work} (procedure : Procedure) (s : Subscriber) → Own May b s
+of_deregistration_settles : {May : List ℕ → Type 0} {b : Beginning} {w : Work} (procedure : Procedure) (s : Record) → Own May b s
     → Moves May b (with_timer T3522 false (running_in procedure)) (running_in procedure) w → Settled May b (of_deregistration procedure s w)
 of_deregistration_settles (procedures.Deregistering d) s e h = deregistering_settles d s e h
 of_deregistration_settles procedures.Idle s e h = settled h
 of_deregistration_settles (procedures.Challenging c) s e h = settled h
 of_deregistration_settles (procedures.Accepting a) s e h = settled h
 
-pub expired_settles : {May : List ℕ → Type 0} {b : Beginning} {w : Work} (id : TimerId) (s : Subscriber) → Own May b s
+pub expired_settles : {May : List ℕ → Type 0} {b : Beginning} {w : Work} (id : TimerId) (s : Record) → Own May b s
     → Moves May b (with_timer id false (running_in s.procedure)) (running_in s.procedure) w → Settled May b (expired_of id s w)
 unfolding expired_of
 expired_settles T3560 s e h = of_challenge_settles s.procedure s e h
@@ -88,17 +88,17 @@ expired_settles (T3591 psi) s e h = settled h
 expired_settles (T3592 psi) s e h = settled h
 
 -- what the SMF wants
-pub fenced_settles : {May : List ℕ → Type 0} {b : Beginning} {w : Work} (s : Subscriber) → Own May b s
+pub fenced_settles : {May : List ℕ → Type 0} {b : Beginning} {w : Work} (s : Record) → Own May b s
     → Moves May b (running_in s.procedure) (running_in s.procedure) w → Settled May b (fenced_of s w)
 fenced_settles {May} {b} {w} s e h =
     when_holds (λ (x : Work). Settled May b x) (is_idle s.procedure) _ w (λ _. challenge_settles Command s.link None s e tt h) (λ _. settled h)
 
-pub sessions_settle : {May : List ℕ → Type 0} {b : Beginning} {w : Work} (status : List Bool) (s : Subscriber) → Own May b s
+pub sessions_settle : {May : List ℕ → Type 0} {b : Beginning} {w : Work} (status : List Bool) (s : Record) → Own May b s
     → Moves May b (running_in s.procedure) (running_in s.procedure) w → Settled May b (sessions_told_of status s w)
 sessions_settle status s e h = settled (puts (record s { status = status }) e h)
 
 -- a link that is lost
-pub lost_settles : {May : List ℕ → Type 0} {b : Beginning} {w : Work} (number : ℕ) (s : Subscriber) → Own May b s
+pub lost_settles : {May : List ℕ → Type 0} {b : Beginning} {w : Work} (number : ℕ) (s : Record) → Own May b s
     → Moves May b (running_in s.procedure) (running_in s.procedure) w → Settled May b (link_lost_of number s w)
 lost_settles {May} {b} {w} number s e h =
     when_holds (λ (x : Work). Settled May b x) (is_challenged_on number s.procedure) _ _
@@ -115,22 +115,22 @@ idle_runs (procedures.Challenging c) e = absurd (cc)
 idle_runs (procedures.Accepting a) e = absurd (cc)
 idle_runs (procedures.Deregistering d) e = absurd (cc)
 
-may_begin_runs : (s : Subscriber) → may_begin s ≡ true → running_in s.procedure ≡ none_runs
+may_begin_runs : (s : Record) → may_begin s ≡ true → running_in s.procedure ≡ none_runs
 may_begin_runs s e = idle_runs s.procedure (and_parts (is_registered (word_of s)) (is_idle s.procedure) e).1
 
-by_sqn_settles : {May : List ℕ → Type 0} {b : Beginning} {q : Running} {w : Work} (answer : Result Vector HomeRefusal) (s : Subscriber) → Own May b s
+by_sqn_settles : {May : List ℕ → Type 0} {b : Beginning} {q : Running} {w : Work} (answer : Result Vector HomeRefusal) (s : Record) → Own May b s
     → Moves May b none_runs q w → SettledBy May b (by_sqn answer s w)
 by_sqn_settles (Err (homes_say.SqnSpent n)) s e h = tt
 by_sqn_settles (Err homes_say.Unknown) s e h = challenge_next_settles Command s.link None s e tt h
 by_sqn_settles (Ok v) s e h = challenge_next_settles Command s.link None s e tt h
 
-pub authenticated_settles : {May : List ℕ → Type 0} {b : Beginning} {q : Running} {w : Work} (s : Subscriber) → Own May b s
+pub authenticated_settles : {May : List ℕ → Type 0} {b : Beginning} {q : Running} {w : Work} (s : Record) → Own May b s
     → Moves May b (running_in s.procedure) q w → SettledBy May b (authenticated s w)
 authenticated_settles {May} {b} {q} {w} s e h =
     when_holds (λ (x : Result Work AmfRefusal). SettledBy May b x) (may_begin s) _ _
     (λ may. by_sqn_settles (challenge_of s.supi w.rand w.home) s e (told_as _ none_runs (may_begin_runs s may) h)) (λ _. tt)
 
-pub left_settles : {May : List ℕ → Type 0} {b : Beginning} {q : Running} {w : Work} (s : Subscriber) → Own May b s
+pub left_settles : {May : List ℕ → Type 0} {b : Beginning} {q : Running} {w : Work} (s : Record) → Own May b s
     → Moves May b (running_in s.procedure) q w → SettledBy May b (left s w)
 left_settles {May} {b} {q} {w} s e h =
     when_holds (λ (x : Result Work AmfRefusal). SettledBy May b x) (may_begin s) _ _

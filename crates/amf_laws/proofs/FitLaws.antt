@@ -8,7 +8,7 @@ use Rattle.amf_core.specs.State.{subscriber_in}
 use Rattle.amf_core.specs.Work.{Work, put, put_link}
 use Rattle.amf_core.specs.declared.procedures.Procedure.{Procedure}
 use Rattle.amf_core.specs.declared.security_mode.Commanding.{Commanding}
-use Rattle.amf_core.specs.declared.subscriber.Subscriber.{Subscriber}
+use Rattle.amf_core.specs.declared.subscriber.Record.{Record}
 use Rattle.nas_base.proofs.Branching.{per_holds}
 use Rattle.amf_laws.proofs.ChallengeRows.{challenge_runs}
 use Rattle.amf_laws.proofs.Chains.{Chain, IsChecked, IsCurrent, Received, kept_now}
@@ -143,12 +143,12 @@ commanding_on_runs number procedure o =
     (λ _ e. absurd (cc)) (λ m is e. commanded_runs procedure m is)
 
 -- what passed is of the subscriber that it was checked for
-pub record IsOf (s : Subscriber) (p : Passage) : Type 0 where
+pub record IsOf (s : Record) (p : Passage) : Type 0 where
   pub supi : p.check.subscriber.supi ≡ s.supi
   pub runs : running_in p.check.subscriber.procedure ≡ running_in s.procedure
   pub kept : p.check.subscriber.kept ≡ s.kept
 
-in_use_is_of : (number : ℕ) (octets : List ℕ) (s : Subscriber) (p : Passage) → checked_in_use number octets s ≡ Some p → IsOf s p
+in_use_is_of : (number : ℕ) (octets : List ℕ) (s : Record) (p : Passage) → checked_in_use number octets s ≡ Some p → IsOf s p
 unfolding checked_in_use
 in_use_is_of number octets s p =
     per_holds (λ (x : Option Passage). x ≡ Some p → IsOf s p) s.in_use None _
@@ -159,7 +159,7 @@ in_use_is_of number octets s p =
     let one : record { check = passed_in_use number context o.count s; message = o.message } ≡ p = cc in
     subst (λ (y : Passage). IsOf s y) one (record { supi = refl; runs = refl; kept = refl })))
 
-pending_is_of : (number : ℕ) (octets : List ℕ) (s : Subscriber) (p : Passage) → checked_pending number octets s ≡ Some p → IsOf s p
+pending_is_of : (number : ℕ) (octets : List ℕ) (s : Record) (p : Passage) → checked_pending number octets s ≡ Some p → IsOf s p
 unfolding checked_pending
 pending_is_of number octets s p =
     per_holds (λ (x : Option Passage). x ≡ Some p → IsOf s p) (commanding_on number s.procedure) None _
@@ -171,12 +171,12 @@ pending_is_of number octets s p =
     subst (λ (y : Passage). IsOf s y) one
     (record { supi = refl; runs = sym (commanding_on_runs number s.procedure m is); kept = refl })))
 
-pub checked_is_of : (number : ℕ) (octets : List ℕ) (s : Subscriber) (p : Passage) → IsChecked number octets s p → IsOf s p
+pub checked_is_of : (number : ℕ) (octets : List ℕ) (s : Record) (p : Passage) → IsChecked number octets s p → IsOf s p
 checked_is_of number octets s p (inl e) = in_use_is_of number octets s p e
 checked_is_of number octets s p (inr e) = pending_is_of number octets s p e
 
 -- what passed is current once it is noted
-pub noted_is_current : {s : Subscriber} {w : Work} (number : ℕ) (p : Passage) → IsOf s p → IsCurrent s w
+pub noted_is_current : {s : Record} {w : Work} (number : ℕ) (p : Passage) → IsOf s p → IsCurrent s w
     → IsCurrent p.check.subscriber (noted number p.check w)
 unfolding put put_link
 noted_is_current {s} {w} number p of h = record {
@@ -187,7 +187,7 @@ noted_is_current {s} {w} number p of h = record {
 }
 
 -- a record that is put with the same timer
-same_timer : (x : List ℕ) (w : Work) (old new : Subscriber) (own : Bool) → bytes_eq new.supi x ≡ own → new.supi ≡ old.supi
+same_timer : (x : List ℕ) (w : Work) (old new : Record) (own : Bool) → bytes_eq new.supi x ≡ own → new.supi ≡ old.supi
     → running_in new.procedure ≡ running_in old.procedure → subscriber_in old.supi (kept_now w) ≡ Some old
     → running_for (subscriber_in x (kept_now (put new w))) ≡ running_for (subscriber_in x (kept_now w))
 unfolding put
@@ -197,7 +197,7 @@ same_timer x w old new true own e runs h =
     ap running_for (own_is_found new x (kept_now w) own (is_kept _ old at_x)) ∙ runs ∙ sym (ap running_for at_x)
 same_timer x w old new false own e runs h = ap running_for (other_is_found new x (kept_now w) own)
 
-noted_fits : (x : List ℕ) (r : Running) {s : Subscriber} {w : Work} (number : ℕ) (p : Passage) → IsOf s p
+noted_fits : (x : List ℕ) (r : Running) {s : Record} {w : Work} (number : ℕ) (p : Passage) → IsOf s p
     → subscriber_in s.supi (kept_now w) ≡ Some s → Fits x r w
     → Fits x r (noted number p.check w)
 unfolding put put_link
@@ -207,11 +207,11 @@ noted_fits x r {s} {w} number p of is h = record {
 }
 
 -- a row that begins where all fits
-current_at : (x : List ℕ) (s : Subscriber) (w : Work) → bytes_eq s.supi x ≡ true
+current_at : (x : List ℕ) (s : Record) (w : Work) → bytes_eq s.supi x ≡ true
     → subscriber_in s.supi (kept_now w) ≡ Some s → subscriber_in x (kept_now w) ≡ Some s
 current_at x s w own h = subst (λ (y : List ℕ). subscriber_in y (kept_now w) ≡ Some s) (are_equal s.supi x own) h
 
-pub fit_begins : (x : List ℕ) (r : Running) (s : Subscriber) (w : Work) → subscriber_in s.supi (kept_now w) ≡ Some s → Fits x r w → IsBegun x r (begins s w)
+pub fit_begins : (x : List ℕ) (r : Running) (s : Record) (w : Work) → subscriber_in s.supi (kept_now w) ≡ Some s → Fits x r w → IsBegun x r (begins s w)
 fit_begins x r s w is h = record {
   own_told = λ own. h.fit ∙ ap running_for (current_at x s w own is);
   own_opened = λ own. ap running_for (current_at x s w own is);

@@ -14,18 +14,18 @@ use Rattle.amf_core.specs.declared.acts.Protection.TheVariants.{Plain, Ciphered,
 use Rattle.amf_core.specs.declared.procedures.Procedure.{Procedure}
 use Rattle.amf_core.specs.declared.procedures.Procedure.TheVariants as procedures
 use Rattle.amf_core.specs.declared.security_mode.Commanding.{Commanding}
-use Rattle.amf_core.specs.declared.subscriber.Subscriber.{Subscriber}
+use Rattle.amf_core.specs.declared.subscriber.Record.{Record}
 use Rattle.nas_base.proofs.Branching.{per_holds, when_holds}
 use Rattle.amf_laws.proofs.ChallengeRows.{challenge_runs}
 use Rattle.amf_laws.proofs.Records.{are_equal, found_has, is_kept, other_is_found, own_is_found, stay_distinct}
 use Rattle.amf_laws.proofs.Told.{acted_of, all_acted, outs_onto}
 use Rattle.amf_laws.specs.Timers.{AreDistinct, Running, all_taken, running_for, running_in, taken_of}
 
-abbrev pub framed_now : Framed → List Subscriber
+abbrev pub framed_now : Framed → List Record
 framed_now f = f.amf.subscribers
 
 -- a count that is taken leaves the rest of a record
-pub record IsCounted (old new : Subscriber) : Type 0 where
+pub record IsCounted (old new : Record) : Type 0 where
   pub supi : new.supi ≡ old.supi
   pub runs : running_in new.procedure ≡ running_in old.procedure
   pub kept : new.kept ≡ old.kept
@@ -40,7 +40,7 @@ IsFor (IntegrityProtectedWithNewContext other) supi = supi ≡ other
 pub data Sends (protection : Protection) (f : Framed) : Framed → Type 0 where
   unsent : Sends protection f f
   goes : {g : Framed} (number : ℕ) (octets : List ℕ) (pass : Option Pass) → Sends protection f g → Sends protection f (sent number octets pass g)
-  counts : {g : Framed} (old new : Subscriber) → IsCounted old new → IsFor protection old.supi → subscriber_in old.supi (framed_now g) ≡ Some old
+  counts : {g : Framed} (old new : Record) → IsCounted old new → IsFor protection old.supi → subscriber_in old.supi (framed_now g) ≡ Some old
       → Sends protection f g → Sends protection f (counted new g)
 
 plain_sends : {f : Framed} (protection : Protection) (number : ℕ) (message : List ℕ) → Sends protection f (framed_plain number message f)
@@ -48,7 +48,7 @@ plain_sends {f} protection number message =
     when_holds (λ (g : Framed). Sends protection f g) (is_too_long message) f _ (λ _. unsent) (λ _. goes number message None unsent)
 
 -- under the context in use
-ciphered_sends : {f : Framed} (supi : List ℕ) (number : ℕ) (message : List ℕ) (s : Subscriber) → s.supi ≡ supi
+ciphered_sends : {f : Framed} (supi : List ℕ) (number : ℕ) (message : List ℕ) (s : Record) → s.supi ≡ supi
     → subscriber_in s.supi (framed_now f) ≡ Some s → Sends (Ciphered supi) f (ciphered_for number message s f)
 ciphered_sends {f} supi number message s is found =
     per_holds (λ (g : Framed). Sends (Ciphered supi) f g) s.in_use _ _ (λ _. plain_sends (Ciphered supi) number message)
@@ -64,7 +64,7 @@ commanded_runs procedures.Idle o e = absurd (cc)
 commanded_runs (procedures.Accepting a) o e = absurd (cc)
 commanded_runs (procedures.Deregistering d) o e = absurd (cc)
 
-commanded_sends : {f : Framed} (supi : List ℕ) (number : ℕ) (message : List ℕ) (s : Subscriber) → s.supi ≡ supi
+commanded_sends : {f : Framed} (supi : List ℕ) (number : ℕ) (message : List ℕ) (s : Record) → s.supi ≡ supi
     → subscriber_in s.supi (framed_now f) ≡ Some s → Sends (IntegrityProtectedWithNewContext supi) f (commanded_for number message s f)
 commanded_sends {f} supi number message s is found =
     per_holds (λ (g : Framed). Sends (IntegrityProtectedWithNewContext supi) f g) (commanding_of s.procedure) f _ (λ _. unsent)
@@ -73,7 +73,7 @@ commanded_sends {f} supi number message s is found =
     (counts s (record s { procedure = procedures.Challenging (counted_command o) })
     (record { supi = refl; runs = sym (commanded_runs s.procedure o has); kept = refl }) is found unsent)))
 
-current_found : (supi : List ℕ) (subscribers : List Subscriber) (s : Subscriber) → subscriber_in supi subscribers ≡ Some s
+current_found : (supi : List ℕ) (subscribers : List Record) (s : Record) → subscriber_in supi subscribers ≡ Some s
     → subscriber_in s.supi subscribers ≡ Some s
 current_found supi subscribers s e =
     subst (λ (y : List ℕ). subscriber_in y subscribers ≡ Some s) (sym (found_has supi subscribers s e)) e
@@ -94,7 +94,7 @@ pub record Leaves (x : List ℕ) (r p q : Running) (f : Framed) : Type 0 where
   pub told : all_taken x f.outs r ≡ p
   pub opened : running_for (subscriber_in x (framed_now f)) ≡ q
 
-count_runs : (x : List ℕ) (f : Framed) (old new : Subscriber) (own : Bool) → bytes_eq new.supi x ≡ own → new.supi ≡ old.supi
+count_runs : (x : List ℕ) (f : Framed) (old new : Record) (own : Bool) → bytes_eq new.supi x ≡ own → new.supi ≡ old.supi
     → running_in new.procedure ≡ running_in old.procedure → subscriber_in old.supi (framed_now f) ≡ Some old
     → running_for (subscriber_in x (framed_now (counted new f))) ≡ running_for (subscriber_in x (framed_now f))
 count_runs x f old new true own e runs found =

@@ -14,7 +14,7 @@ use Rattle.amf_core.specs.declared.acts.Protection.{Protection}
 use Rattle.amf_core.specs.declared.inputs.AmfInput.{AmfInput}
 use Rattle.amf_core.specs.declared.inputs.AmfInput.TheVariants.{Uplink, Expired, Authenticate, Deregister, Fence, Sessions, Down, Dropped}
 use Rattle.amf_core.specs.declared.inputs.AmfRefusal.{AmfRefusal}
-use Rattle.amf_core.specs.declared.subscriber.Subscriber.{Subscriber}
+use Rattle.amf_core.specs.declared.subscriber.Record.{Record}
 use Rattle.amf_laws.proofs.Chains.{Chain, Received, kept_now}
 use Rattle.amf_laws.proofs.Chains.Chain.{nothing, speaks, waits, passes, does}
 use Rattle.amf_laws.proofs.FitLaws.{checked_is_of}
@@ -31,12 +31,12 @@ use Rattle.amf_laws.specs.Kept.{AreFew, KeepFew, StayFew}
 use Rattle.amf_laws.specs.Timers.{Running}
 
 -- one more record that keeps two at most
-put_few : (new : Subscriber) (subscribers : List Subscriber) → AreFew new.kept → KeepFew subscribers
+put_few : (new : Record) (subscribers : List Record) → AreFew new.kept → KeepFew subscribers
     → KeepFew (put_in is_same_subscriber new subscribers)
 put_few new subscribers few h s among = by_either (among_or new s subscribers among)
   where
     by_either : (new ≡ s) ⊎ IsAmong s subscribers → AreFew s.kept
-    by_either (inl is) = subst (λ (y : Subscriber). AreFew y.kept) is few
+    by_either (inl is) = subst (λ (y : Record). AreFew y.kept) is few
     by_either (inr old) = h s old
 
 -- moves
@@ -84,7 +84,7 @@ acts_few (act ∷ acts) f begin = acts_few acts (framed act f) (act_few act f be
 
 -- what the row of an input leaves
 start_few : (a : AmfState) (w : Work) → IsAtStart a w → KeepFew a.subscribers → KeepFew (kept_now w)
-start_few a w at_start few = subst (λ (y : List Subscriber). KeepFew y) (sym at_start.kept) few
+start_few a w at_start few = subst (λ (y : List Record). KeepFew y) (sym at_start.kept) few
 
 comes_few : (a : AmfState) (w : Work) → KeepFew a.subscribers → Comes (λ (y : List ℕ). Unit {0}) a w → KeepFew (kept_now w)
 comes_few a w few (chains u at_start h) = chain_few (start_few a u.first at_start few) h

@@ -12,7 +12,7 @@ use Rattle.amf_core.specs.declared.acts.Protection.TheVariants.{Plain, Ciphered,
 use Rattle.amf_core.specs.declared.link.Link.{Link}
 use Rattle.amf_core.specs.declared.outs.SmfAsk.{SmfAsk}
 use Rattle.amf_core.specs.declared.requests.Request.{Request}
-use Rattle.amf_core.specs.declared.subscriber.Subscriber.{Subscriber}
+use Rattle.amf_core.specs.declared.subscriber.Record.{Record}
 use Rattle.nas_base.proofs.Branching.{per_holds, when_holds}
 use Rattle.amf_laws.specs.Kept.{AreFew}
 use Rattle.amf_laws.specs.Timers.{Running, running_in, with_timer}
@@ -32,7 +32,7 @@ MayProtect May (Ciphered supi) = May supi
 MayProtect May (IntegrityProtectedWithNewContext supi) = May supi
 
 -- A record of the subscriber: it has its SUPI, which may change, and keeps two 5G-GUTIs at most, where it did.
-abbrev pub Own : (List ℕ → Type 0) → Beginning → Subscriber → Type 0
+abbrev pub Own : (List ℕ → Type 0) → Beginning → Record → Type 0
 Own May b s = (s.supi ≡ b.supi) × (AreFew b.kept → AreFew s.kept) × May s.supi
 
 -- What was reached from there, with the timers that run by what was told and by the procedure.
@@ -40,12 +40,12 @@ pub data Moves (May : List ℕ → Type 0) (b : Beginning) : Running → Running
   here : Moves May b b.told b.opened b.first
   said : {p q : Running} {w : Work} (number : ℕ) (protection : Protection) (message : Mm) → MayProtect May protection → Moves May b p q w
       → Moves May b p q (say number protection message w)
-  asked : {p q : Running} {w : Work} (call : SmfAsk) (s : Subscriber) → Moves May b p q w → Moves May b p q (ask call s w)
-  starts : {p q : Running} {w : Work} (id : TimerId) (s : Subscriber) → Own May b s → Moves May b p q w
+  asked : {p q : Running} {w : Work} (call : SmfAsk) (s : Record) → Moves May b p q w → Moves May b p q (ask call s w)
+  starts : {p q : Running} {w : Work} (id : TimerId) (s : Record) → Own May b s → Moves May b p q w
       → Moves May b (with_timer id true p) q (start id s w)
-  stops : {p q : Running} {w : Work} (id : TimerId) (s : Subscriber) → Own May b s → Moves May b p q w
+  stops : {p q : Running} {w : Work} (id : TimerId) (s : Record) → Own May b s → Moves May b p q w
       → Moves May b (with_timer id false p) q (stop id s w)
-  puts : {p q : Running} {w : Work} (s : Subscriber) → Own May b s → Moves May b p q w → Moves May b p (running_in s.procedure) (put s w)
+  puts : {p q : Running} {w : Work} (s : Record) → Own May b s → Moves May b p q w → Moves May b p (running_in s.procedure) (put s w)
   links : {p q : Running} {w : Work} (number : ℕ) (supi : Option (List ℕ)) (waiting : Option Request) → Moves May b p q w
       → Moves May b p q (put_link (record (link_of number w) { supi = supi; waiting = waiting }) w)
   homes : {p q : Running} {w : Work} (home : List HomeRecord) → Moves May b p q w → Moves May b p q (put_home home w)
@@ -76,7 +76,7 @@ own_protection_may May l may =
     per_holds (λ (x : Protection). MayProtect May x) l.supi Plain _ (λ _. tt) (λ supi e. by_link_may May l supi (may supi e))
 
 -- where a row begins that has this subscriber
-abbrev pub begins : Subscriber → Work → Beginning
+abbrev pub begins : Record → Work → Beginning
 begins s w = record { supi = s.supi; kept = s.kept; first = w; told = running_in s.procedure; opened = running_in s.procedure }
 
 -- the same timers by other names

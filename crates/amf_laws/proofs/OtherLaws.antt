@@ -28,7 +28,7 @@ use Rattle.amf_core.specs.declared.inputs.AmfInput.TheVariants.{Uplink, Expired,
 use Rattle.amf_core.specs.declared.inputs.AmfRefusal.{AmfRefusal}
 use Rattle.amf_core.specs.declared.link.Link.{Link}
 use Rattle.amf_core.specs.declared.outs.AmfOut.TheVariants.{Passed, Smf, Start, Stop}
-use Rattle.amf_core.specs.declared.subscriber.Subscriber.{Subscriber}
+use Rattle.amf_core.specs.declared.subscriber.Record.{Record}
 use Rattle.nas_base.proofs.Branching.{per_holds, when_holds}
 use Rattle.amf_laws.proofs.Chains.{Chain, IsChecked, Received, kept_now, link_is_current}
 use Rattle.amf_laws.proofs.Chains.Chain.{nothing, speaks, waits, passes, does}
@@ -138,7 +138,7 @@ record Stays (May : List ℕ → Type 0) (x : List ℕ) (a : AmfState) (w : Work
   acts : ActsFor May w.acts
 
 start_stays : (x : List ℕ) (a : AmfState) (w : Work) → IsAtStart a w → subscriber_in x (kept_now w) ≡ subscriber_in x a.subscribers
-start_stays x a w h = ap (λ (y : List Subscriber). subscriber_in x y) h.kept
+start_stays x a w h = ap (λ (y : List Record). subscriber_in x y) h.kept
 
 start_for : (May : List ℕ → Type 0) (a : AmfState) (w : Work) → IsAtStart a w → ActsFor May w.acts
 start_for May a w h = subst (λ (y : List Act). ActsFor May y) (sym h.acts) tt
@@ -165,33 +165,33 @@ others_at_end a input (Ok w) h = λ x not_x.
 others_at_end a input (Err refusal) h = tt
 
 -- what is found holds what it was found by
-is_first : (is : Subscriber → Bool) (x s : Subscriber) (rest : Option Subscriber) (here_is : Bool) → is x ≡ here_is
+is_first : (is : Record → Bool) (x s : Record) (rest : Option Record) (here_is : Bool) → is x ≡ here_is
     → (rest ≡ Some s → is s ≡ true) → (if here_is then Some x else rest) ≡ Some s → is s ≡ true
 is_first is x s rest true e later found_it = let one : x ≡ s = cc in ap is (sym one) ∙ e
 is_first is x s rest false e later found_it = later found_it
 
-found_is : (is : Subscriber → Bool) (subscribers : List Subscriber) (s : Subscriber) → found is subscribers ≡ Some s → is s ≡ true
+found_is : (is : Record → Bool) (subscribers : List Record) (s : Record) → found is subscribers ≡ Some s → is s ≡ true
 found_is is [] s e = absurd (cc)
 found_is is (x ∷ subscribers) s e = is_first is x s (found is subscribers) (is x) refl (found_is is subscribers s) e
 
 -- who is found where nothing has changed yet is named
-pub keeper_at_start : (is : Subscriber → Bool) (a : AmfState) (w : Work) (s : Subscriber) → IsAtStart a w → found is (kept_now w) ≡ Some s
+pub keeper_at_start : (is : Record → Bool) (a : AmfState) (w : Work) (s : Record) → IsAtStart a w → found is (kept_now w) ≡ Some s
     → IsKeeper is a s.supi
 keeper_at_start is a w s h e = record {
   subscriber = s;
-  is_kept = subst (λ (y : List Subscriber). IsAmong s y) h.kept (found_among is (kept_now w) s e);
+  is_kept = subst (λ (y : List Record). IsAmong s y) h.kept (found_among is (kept_now w) s e);
   is_its = refl;
   keeps = found_is is (kept_now w) s e;
 }
 
-names_at_start : (a : AmfState) (w : Work) (identity : Identity) (s : Subscriber) → IsAtStart a w → names identity w ≡ Some s
+names_at_start : (a : AmfState) (w : Work) (identity : Identity) (s : Record) → IsAtStart a w → names identity w ≡ Some s
     → Names a identity s.supi
 names_at_start a w (identities.Suci x) s h e = sym (found_has (suci_digits x) (kept_now w) s e)
 names_at_start a w (identities.Guti g) s h e = keeper_at_start (keeps_guti g) a w s h e
 names_at_start a w (identities.Stmsi t) s h e = absurd (cc)
 names_at_start a w (identities.Other octets) s h e = absurd (cc)
 
-kept_for_at_start : (a : AmfState) (w : Work) (identity : Identity) (s : Subscriber) → IsAtStart a w → kept_for identity w ≡ Some s
+kept_for_at_start : (a : AmfState) (w : Work) (identity : Identity) (s : Record) → IsAtStart a w → kept_for identity w ≡ Some s
     → Names a identity s.supi
 kept_for_at_start a w (identities.Suci x) s h e = absurd (cc)
 kept_for_at_start a w (identities.Guti g) s h e = keeper_at_start (keeps_guti g) a w s h e
@@ -199,28 +199,28 @@ kept_for_at_start a w (identities.Stmsi t) s h e = keeper_at_start (keeps_stmsi 
 kept_for_at_start a w (identities.Other octets) s h e = absurd (cc)
 
 -- one that is kept once a pass is noted was kept before, with the same 5G-GUTIs
-record WasKept (a : AmfState) (s : Subscriber) : Type 0 where
-  old : Subscriber
+record WasKept (a : AmfState) (s : Record) : Type 0 where
+  old : Record
   is_kept : IsAmong old a.subscribers
   is_its : old.supi ≡ s.supi
   keeps : old.kept ≡ s.kept
 
-was_kept : (a : AmfState) (w : Work) (number : ℕ) (old : Subscriber) (p : Passage) (s : Subscriber) → IsAtStart a w → IsOf old p
+was_kept : (a : AmfState) (w : Work) (number : ℕ) (old : Record) (p : Passage) (s : Record) → IsAtStart a w → IsOf old p
     → IsAmong old (kept_now w) → (p.check.subscriber ≡ s) ⊎ IsAmong s (kept_now w) → WasKept a s
 was_kept a w number old p s h of among (inl is) = record {
   old = old;
-  is_kept = subst (λ (y : List Subscriber). IsAmong old y) h.kept among;
-  is_its = sym of.supi ∙ ap (λ (y : Subscriber). y.supi) is;
-  keeps = sym of.kept ∙ ap (λ (y : Subscriber). y.kept) is;
+  is_kept = subst (λ (y : List Record). IsAmong old y) h.kept among;
+  is_its = sym of.supi ∙ ap (λ (y : Record). y.supi) is;
+  keeps = sym of.kept ∙ ap (λ (y : Record). y.kept) is;
 }
 was_kept a w number old p s h of among (inr is) = record {
   old = s;
-  is_kept = subst (λ (y : List Subscriber). IsAmong s y) h.kept is;
+  is_kept = subst (λ (y : List Record). IsAmong s y) h.kept is;
   is_its = refl;
   keeps = refl;
 }
 
-names_noted : (a : AmfState) (w : Work) (number : ℕ) (old : Subscriber) (p : Passage) (identity : Identity) (s : Subscriber) → IsAtStart a w
+names_noted : (a : AmfState) (w : Work) (number : ℕ) (old : Record) (p : Passage) (identity : Identity) (s : Record) → IsAtStart a w
     → IsOf old p → IsAmong old (kept_now w) → names identity (noted number p.check w) ≡ Some s → Names a identity s.supi
 unfolding put put_link
 names_noted a w number old p (identities.Suci x) s h of among e = sym (found_has (suci_digits x) (kept_now (noted number p.check w)) s e)
@@ -239,17 +239,17 @@ names_noted a w number old p (identities.Stmsi t) s h of among e = absurd (cc)
 names_noted a w number old p (identities.Other octets) s h of among e = absurd (cc)
 
 -- the identity by which a message names
-record ByIdentity (m : Mm) (finds : Identity → Option Subscriber) (s : Subscriber) : Type 0 where
+record ByIdentity (m : Mm) (finds : Identity → Option Record) (s : Record) : Type 0 where
   identity : Identity
   is_told : identity_in m ≡ Some identity
   is_found : finds identity ≡ Some s
 
-named_by_identity : (m : Mm) (w : Work) (s : Subscriber) → named_by m w ≡ Some s → ByIdentity m (λ (identity : Identity). names identity w) s
+named_by_identity : (m : Mm) (w : Work) (s : Record) → named_by m w ≡ Some s → ByIdentity m (λ (identity : Identity). names identity w) s
 named_by_identity (mm.RegistrationRequest m) w s e = record { identity = m.identity; is_told = refl; is_found = e }
 named_by_identity (mm.IdentityResponse m) w s e = record { identity = m.identity; is_told = refl; is_found = e }
 named_by_identity m w s e = absurd (cc)
 
-inside_by_identity : (m : Mm) (w : Work) (s : Subscriber) → named_inside (Some m) w ≡ Some s
+inside_by_identity : (m : Mm) (w : Work) (s : Record) → named_inside (Some m) w ≡ Some s
     → ByIdentity m (λ (identity : Identity). kept_for identity w) s
 inside_by_identity (mm.RegistrationRequest m) w s e = record { identity = m.identity; is_told = refl; is_found = e }
 inside_by_identity (mm.ServiceRequest m) w s e = record { identity = m.identity; is_told = refl; is_found = e }
@@ -257,7 +257,7 @@ inside_by_identity (mm.DeregistrationRequestUeOriginating m) w s e = record { id
 inside_by_identity m w s e = absurd (cc)
 
 -- octets that passed open to their message
-in_use_opens : (a : AmfState) (number : ℕ) (octets : List ℕ) (s : Subscriber) (p : Passage) → IsAmong s a.subscribers
+in_use_opens : (a : AmfState) (number : ℕ) (octets : List ℕ) (s : Record) (p : Passage) → IsAmong s a.subscribers
     → checked_in_use number octets s ≡ Some p → OpenTo a number octets p.message
 unfolding checked_in_use
 in_use_opens a number octets s p among =
@@ -270,7 +270,7 @@ in_use_opens a number octets s p among =
     subst (λ (y : Passage). OpenTo a number octets y.message) one
     (record { subscriber = s; context = context; count = o.count; is_kept = among; is_context = inl has; opens = is })))
 
-pending_opens : (a : AmfState) (number : ℕ) (octets : List ℕ) (s : Subscriber) (p : Passage) → IsAmong s a.subscribers
+pending_opens : (a : AmfState) (number : ℕ) (octets : List ℕ) (s : Record) (p : Passage) → IsAmong s a.subscribers
     → checked_pending number octets s ≡ Some p → OpenTo a number octets p.message
 unfolding checked_pending
 pending_opens a number octets s p among =
@@ -283,7 +283,7 @@ pending_opens a number octets s p among =
     subst (λ (y : Passage). OpenTo a number octets y.message) one
     (record { subscriber = s; context = m.context; count = o.count; is_kept = among; is_context = inr (m, has, refl); opens = is })))
 
-checked_opens : (a : AmfState) (number : ℕ) (octets : List ℕ) (s : Subscriber) (p : Passage) → IsAmong s a.subscribers
+checked_opens : (a : AmfState) (number : ℕ) (octets : List ℕ) (s : Record) (p : Passage) → IsAmong s a.subscribers
     → IsChecked number octets s p → OpenTo a number octets p.message
 checked_opens a number octets s p among (inl e) = in_use_opens a number octets s p among e
 checked_opens a number octets s p among (inr e) = pending_opens a number octets s p among e
@@ -329,13 +329,13 @@ sender_names a number fresh octets w (Ok m) h is = λ s e.
 sender_names a number fresh octets w (Err refusal) h is = λ s e. absurd (cc)
 
 -- whom a message that passed names
-passed_names : (a : AmfState) (number : ℕ) (fresh : Bool) (octets : List ℕ) (w : Work) (old : Subscriber) (p : Passage) (read : Result Mm MmRefusal)
+passed_names : (a : AmfState) (number : ℕ) (fresh : Bool) (octets : List ℕ) (w : Work) (old : Record) (p : Passage) (read : Result Mm MmRefusal)
     → IsAtStart a w → IsAmong old (kept_now w) → IsChecked number octets old p → mm_in p.message ≡ read
     → MayNamed (UplinkConcerns a number fresh octets) (named_in read (noted number p.check w))
 passed_names a number fresh octets w old p (Ok m) h among checked is = λ s e.
     let by = named_by_identity m (noted number p.check w) s e in
     let opens : OpenTo a number octets p.message =
-    checked_opens a number octets old p (subst (λ (y : List Subscriber). IsAmong old y) h.kept among) checked in
+    checked_opens a number octets old p (subst (λ (y : List Record). IsAmong old y) h.kept among) checked in
     inr (record {
       message = m;
       identity = by.identity;
@@ -345,7 +345,7 @@ passed_names a number fresh octets w old p (Ok m) h among checked is = λ s e.
     })
 passed_names a number fresh octets w old p (Err refusal) h among checked is = λ s e. absurd (cc)
 
-may_pass : (a : AmfState) (number : ℕ) (fresh : Bool) (octets : List ℕ) (w : Work) (s : Subscriber) → IsAtStart a w → IsAmong s (kept_now w)
+may_pass : (a : AmfState) (number : ℕ) (fresh : Bool) (octets : List ℕ) (w : Work) (s : Record) → IsAtStart a w → IsAmong s (kept_now w)
     → UplinkConcerns a number fresh octets s.supi → MayPass (UplinkConcerns a number fresh octets) number octets s w
 may_pass a number fresh octets w s h among may = record {
   itself = λ _ _. may;
@@ -363,18 +363,18 @@ linked_before a home now rand number fresh supi =
     (λ _ e. e)
 
 link_concerns : (May : List ℕ → Type 0) (number : ℕ) (w : Work) → MayLink May number (links_now w)
-    → (s : Subscriber) → subscriber_of_link number w ≡ Some s → May s.supi
+    → (s : Record) → subscriber_of_link number w ≡ Some s → May s.supi
 link_concerns May number w link s =
-    per_holds (λ (x : Option Subscriber). x ≡ Some s → May s.supi) (link_of number w).supi None _
+    per_holds (λ (x : Option Record). x ≡ Some s → May s.supi) (link_of number w).supi None _
     (λ _ e. absurd (cc))
     (λ supi is e. subst May (sym (found_has supi (kept_now w) s e)) (link supi is))
 
 sender_concerns : (May : List ℕ → Type 0) (number : ℕ) (m : Option Mm) (w : Work) → MayLink May number (links_now w)
-    → MayNamed May (named_inside m w) → (s : Subscriber) → sender number m w ≡ Some s → May s.supi
+    → MayNamed May (named_inside m w) → (s : Record) → sender number m w ≡ Some s → May s.supi
 sender_concerns May number m w link named s =
-    per_holds (λ (x : Option Subscriber). x ≡ Some s → May s.supi) (named_inside m w) (subscriber_of_link number w) _
+    per_holds (λ (x : Option Record). x ≡ Some s → May s.supi) (named_inside m w) (subscriber_of_link number w) _
     (λ _ e. link_concerns May number w link s e)
-    (λ y is e. let one : y ≡ s = cc in subst (λ (z : Subscriber). May z.supi) one (named y is))
+    (λ y is e. let one : y ≡ s = cc in subst (λ (z : Record). May z.supi) one (named y is))
 
 may_receive : (a : AmfState) (home : List HomeRecord) (now : ℕ) (rand : List ℕ) (number : ℕ) (fresh : Bool) (octets : List ℕ) (w : Work)
     → IsAtStart a w → MayLink (UplinkConcerns a number fresh octets) number (links_now w)

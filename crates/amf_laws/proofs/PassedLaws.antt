@@ -21,7 +21,7 @@ use Rattle.amf_core.specs.declared.acts.Act.TheVariants.{Say, Tell}
 use Rattle.amf_core.specs.declared.acts.Protection.{Protection}
 use Rattle.amf_core.specs.declared.outs.AmfOut.{AmfOut}
 use Rattle.amf_core.specs.declared.outs.AmfOut.TheVariants.{Send, Passed, Smf, Start, Stop}
-use Rattle.amf_core.specs.declared.subscriber.Subscriber.{Subscriber}
+use Rattle.amf_core.specs.declared.subscriber.Record.{Record}
 use Rattle.nas_base.proofs.Branching.{per_holds, when_holds}
 use Rattle.amf_laws.proofs.Chains.{Chain, IsChecked, Received, kept_now}
 use Rattle.amf_laws.proofs.Chains.Chain.{nothing, speaks, waits, passes, does}
@@ -105,7 +105,7 @@ abbrev pub pass_told : Passage → Pass
 pass_told p = record { supi = p.check.subscriber.supi; challenge = p.check.challenge; count = p.check.count }
 
 chain_passed : (P : Pass → Type 0) {May : List ℕ → Type 0} {u : Received} {w : Work} → ActsPassed P u.first.acts
-    → ((s : Subscriber) (p : Passage) → IsAmong s (kept_now u.first) → IsChecked u.number u.octets s p → P (pass_told p))
+    → ((s : Record) (p : Passage) → IsAmong s (kept_now u.first) → IsChecked u.number u.octets s p → P (pass_told p))
     → Chain May u w → ActsPassed P w.acts
 unfolding put put_link
 chain_passed P begin checked_so nothing = begin
@@ -135,7 +135,7 @@ something_passes context octets o small e =
     (are.0, (passed_where_passing context Up octets small o.count are.0 o.message).1 are.1)
 
 -- what was checked passes
-in_use_passes : (a : AmfState) (number : ℕ) (octets : List ℕ) (s : Subscriber) (p : Passage) → get_or octets 6 0 < 256
+in_use_passes : (a : AmfState) (number : ℕ) (octets : List ℕ) (s : Record) (p : Passage) → get_or octets 6 0 < 256
     → IsAmong s a.subscribers → checked_in_use number octets s ≡ Some p → WasChecked a number octets (pass_told p)
 unfolding checked_in_use
 in_use_passes a number octets s p small among =
@@ -159,7 +159,7 @@ in_use_passes a number octets s p small among =
       passes = are.1;
     })))
 
-pending_passes : (a : AmfState) (number : ℕ) (octets : List ℕ) (s : Subscriber) (p : Passage) → get_or octets 6 0 < 256
+pending_passes : (a : AmfState) (number : ℕ) (octets : List ℕ) (s : Record) (p : Passage) → get_or octets 6 0 < 256
     → IsAmong s a.subscribers → checked_pending number octets s ≡ Some p → WasChecked a number octets (pass_told p)
 unfolding checked_pending
 pending_passes a number octets s p small among =
@@ -183,7 +183,7 @@ pending_passes a number octets s p small among =
       passes = are.1;
     })))
 
-checked_passes : (a : AmfState) (number : ℕ) (octets : List ℕ) (s : Subscriber) (p : Passage) → get_or octets 6 0 < 256
+checked_passes : (a : AmfState) (number : ℕ) (octets : List ℕ) (s : Record) (p : Passage) → get_or octets 6 0 < 256
     → IsAmong s a.subscribers → IsChecked number octets s p → WasChecked a number octets (pass_told p)
 checked_passes a number octets s p small among (inl e) = in_use_passes a number octets s p small among e
 checked_passes a number octets s p small among (inr e) = pending_passes a number octets s p small among e
@@ -209,7 +209,7 @@ opened_at_end a home number octets w small h =
     acts_pass (WasChecked a number octets) (received number octets w).acts (record { amf = (received number octets w).amf; outs = [] }) tt
     (chain_passed (WasChecked a number octets) (subst (λ (y : List Act). ActsPassed (WasChecked a number octets) y) (sym h.acts) tt)
     (λ s p among checked.
-    checked_passes a number octets s p small (subst (λ (y : List Subscriber). IsAmong s y) h.kept among) checked) chain)
+    checked_passes a number octets s p small (subst (λ (y : List Record). IsAmong s y) h.kept among) checked) chain)
 
 pub opened_where_passing : (a : AmfState) (home : List HomeRecord) (now : ℕ) (rand : List ℕ) (number : ℕ) (fresh : Bool) (octets : List ℕ)
     → get_or octets 6 0 < 256 → OpensWherePassing a number octets (Uplinks a home now rand number fresh octets)

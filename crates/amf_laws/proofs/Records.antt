@@ -5,7 +5,7 @@ use Rattle.std.specs.Str.{bytes_eq}
 use Rattle.std.proofs.lemmas.Slice.Eq.{bytes_eq-Decides}
 use Rattle.amf_core.specs.Keyed.{found, put_in}
 use Rattle.amf_core.specs.State.{is_same_subscriber, subscriber_in}
-use Rattle.amf_core.specs.declared.subscriber.Subscriber.{Subscriber}
+use Rattle.amf_core.specs.declared.subscriber.Record.{Record}
 use Rattle.amf_laws.specs.Timers.{AreDistinct}
 use Rattle.amf_laws.specs.Passing.{IsAmong}
 
@@ -21,36 +21,36 @@ other_way x y true h = grind (arith, bytes_eq-Decides x y, bytes_eq-Decides y x)
 other_way x y false h = grind (arith, bytes_eq-Decides x y, bytes_eq-Decides y x)
 
 -- a record in the place of that of its subscriber
-abbrev pub put_one : Subscriber → Subscriber → Subscriber
+abbrev pub put_one : Record → Record → Record
 put_one s x = if is_same_subscriber s x then s else x
 
-one_is : (s x : Subscriber) (is : Bool) → bytes_eq x.supi s.supi ≡ is → put_one s x ≡ (if is then s else x)
+one_is : (s x : Record) (is : Bool) → bytes_eq x.supi s.supi ≡ is → put_one s x ≡ (if is then s else x)
 one_is s x true e = rw e refl
 one_is s x false e = rw e refl
 
-put_own : (s x : Subscriber) → bytes_eq x.supi s.supi ≡ true → put_one s x ≡ s
+put_own : (s x : Record) → bytes_eq x.supi s.supi ≡ true → put_one s x ≡ s
 put_own s x e = one_is s x true e
 
-pub put_other : (s x : Subscriber) → bytes_eq x.supi s.supi ≡ false → put_one s x ≡ x
+pub put_other : (s x : Record) → bytes_eq x.supi s.supi ≡ false → put_one s x ≡ x
 put_other s x e = one_is s x false e
 
 -- a record that is put keeps its SUPI
-keeps_supi : (s x : Subscriber) (is : Bool) → bytes_eq x.supi s.supi ≡ is → (if is then s else x).supi ≡ x.supi
+keeps_supi : (s x : Record) (is : Bool) → bytes_eq x.supi s.supi ≡ is → (if is then s else x).supi ≡ x.supi
 keeps_supi s x true e = sym (are_equal x.supi s.supi e)
 keeps_supi s x false e = refl
 
-pub supi_stays : (s x : Subscriber) → (put_one s x).supi ≡ x.supi
+pub supi_stays : (s x : Record) → (put_one s x).supi ≡ x.supi
 supi_stays s x = keeps_supi s x (bytes_eq x.supi s.supi) refl
 
 -- what is found of a SUPI is what was found of it before, as it is by now
-first_put : (supi : List ℕ) (s x : Subscriber) (subscribers : List Subscriber) (is : Bool)
+first_put : (supi : List ℕ) (s x : Record) (subscribers : List Record) (is : Bool)
     → subscriber_in supi (put_in is_same_subscriber s subscribers) ≡ option_map (put_one s) (subscriber_in supi subscribers)
     → (if is then Some (put_one s x) else subscriber_in supi (put_in is_same_subscriber s subscribers))
     ≡ option_map (put_one s) (if is then Some x else subscriber_in supi subscribers)
 first_put supi s x subscribers true h = refl
 first_put supi s x subscribers false h = h
 
-found_put : (supi : List ℕ) (s : Subscriber) (subscribers : List Subscriber)
+found_put : (supi : List ℕ) (s : Record) (subscribers : List Record)
     → subscriber_in supi (put_in is_same_subscriber s subscribers) ≡ option_map (put_one s) (subscriber_in supi subscribers)
 found_put supi s [] = refl
 found_put supi s (x ∷ subscribers) =
@@ -61,72 +61,72 @@ found_put supi s (x ∷ subscribers) =
     (first_put supi s x subscribers (bytes_eq x.supi supi) (found_put supi s subscribers))
 
 -- what is found of a SUPI has it
-first_has : (supi : List ℕ) (subscribers : List Subscriber) (x s : Subscriber) (is : Bool) → bytes_eq x.supi supi ≡ is
+first_has : (supi : List ℕ) (subscribers : List Record) (x s : Record) (is : Bool) → bytes_eq x.supi supi ≡ is
     → (subscriber_in supi subscribers ≡ Some s → s.supi ≡ supi)
     → (if is then Some x else subscriber_in supi subscribers) ≡ Some s → s.supi ≡ supi
 first_has supi subscribers x s true same rest e =
-    let one : x ≡ s = cc in ap (λ (y : Subscriber). y.supi) (sym one) ∙ are_equal x.supi supi same
+    let one : x ≡ s = cc in ap (λ (y : Record). y.supi) (sym one) ∙ are_equal x.supi supi same
 first_has supi subscribers x s false same rest e = rest e
 
-pub found_has : (supi : List ℕ) (subscribers : List Subscriber) (s : Subscriber) → subscriber_in supi subscribers ≡ Some s → s.supi ≡ supi
+pub found_has : (supi : List ℕ) (subscribers : List Record) (s : Record) → subscriber_in supi subscribers ≡ Some s → s.supi ≡ supi
 found_has supi [] s e = absurd (cc)
 found_has supi (x ∷ subscribers) s e =
     first_has supi subscribers x s (bytes_eq x.supi supi) refl (found_has supi subscribers s) e
 
 -- another record that is put leaves it
-mapped_other : (s : Subscriber) (supi : List ℕ) (x : Option Subscriber) → bytes_eq s.supi supi ≡ false
-    → ((y : Subscriber) → x ≡ Some y → y.supi ≡ supi) → option_map (put_one s) x ≡ x
+mapped_other : (s : Record) (supi : List ℕ) (x : Option Record) → bytes_eq s.supi supi ≡ false
+    → ((y : Record) → x ≡ Some y → y.supi ≡ supi) → option_map (put_one s) x ≡ x
 mapped_other s supi None e has = refl
 mapped_other s supi (Some y) e has =
-    ap (λ (z : Subscriber). Some z)
+    ap (λ (z : Record). Some z)
     (put_other s y (ap (λ (z : List ℕ). bytes_eq z s.supi) (has y refl) ∙ other_way s.supi supi false e))
 
-pub other_is_found : (s : Subscriber) (supi : List ℕ) (subscribers : List Subscriber) → bytes_eq s.supi supi ≡ false
+pub other_is_found : (s : Record) (supi : List ℕ) (subscribers : List Record) → bytes_eq s.supi supi ≡ false
     → subscriber_in supi (put_in is_same_subscriber s subscribers) ≡ subscriber_in supi subscribers
 other_is_found s supi subscribers e =
     found_put supi s subscribers ∙ mapped_other s supi (subscriber_in supi subscribers) e (found_has supi subscribers)
 
 -- its own is found in its place
-mapped_own : (s : Subscriber) (supi : List ℕ) (x : Option Subscriber) → bytes_eq s.supi supi ≡ true
-    → ((y : Subscriber) → x ≡ Some y → y.supi ≡ supi) → is_some x ≡ true → option_map (put_one s) x ≡ Some s
+mapped_own : (s : Record) (supi : List ℕ) (x : Option Record) → bytes_eq s.supi supi ≡ true
+    → ((y : Record) → x ≡ Some y → y.supi ≡ supi) → is_some x ≡ true → option_map (put_one s) x ≡ Some s
 mapped_own s supi None e has some = absurd (cc)
 mapped_own s supi (Some y) e has some =
-    ap (λ (z : Subscriber). Some z)
+    ap (λ (z : Record). Some z)
     (put_own s y (ap (λ (z : List ℕ). bytes_eq z s.supi) (has y refl) ∙ other_way s.supi supi true e))
 
-pub own_is_found : (s : Subscriber) (supi : List ℕ) (subscribers : List Subscriber) → bytes_eq s.supi supi ≡ true
+pub own_is_found : (s : Record) (supi : List ℕ) (subscribers : List Record) → bytes_eq s.supi supi ≡ true
     → is_some (subscriber_in supi subscribers) ≡ true → subscriber_in supi (put_in is_same_subscriber s subscribers) ≡ Some s
 own_is_found s supi subscribers e some =
     found_put supi s subscribers ∙ mapped_own s supi (subscriber_in supi subscribers) e (found_has supi subscribers) some
 
 -- whatever is put, the same SUPIs are kept
-mapped_some : (s : Subscriber) (x : Option Subscriber) → is_some (option_map (put_one s) x) ≡ is_some x
+mapped_some : (s : Record) (x : Option Record) → is_some (option_map (put_one s) x) ≡ is_some x
 mapped_some s None = refl
 mapped_some s (Some y) = refl
 
-pub some_stays : (s : Subscriber) (supi : List ℕ) (subscribers : List Subscriber)
+pub some_stays : (s : Record) (supi : List ℕ) (subscribers : List Record)
     → is_some (subscriber_in supi (put_in is_same_subscriber s subscribers)) ≡ is_some (subscriber_in supi subscribers)
 some_stays s supi subscribers =
-    ap (λ (x : Option Subscriber). is_some x) (found_put supi s subscribers) ∙ mapped_some s (subscriber_in supi subscribers)
+    ap (λ (x : Option Record). is_some x) (found_put supi s subscribers) ∙ mapped_some s (subscriber_in supi subscribers)
 
-pub is_kept : (x : Option Subscriber) (s : Subscriber) → x ≡ Some s → is_some x ≡ true
-is_kept x s e = ap (λ (y : Option Subscriber). is_some y) e
+pub is_kept : (x : Option Record) (s : Record) → x ≡ Some s → is_some x ≡ true
+is_kept x s e = ap (λ (y : Option Record). is_some y) e
 
 -- no SUPI twice, still, and before
-pub stay_distinct : (s : Subscriber) (subscribers : List Subscriber) → AreDistinct subscribers
+pub stay_distinct : (s : Record) (subscribers : List Record) → AreDistinct subscribers
     → AreDistinct (put_in is_same_subscriber s subscribers)
 stay_distinct s [] h = tt
 stay_distinct s (x ∷ subscribers) h = (
   ap (λ (y : List ℕ). subscriber_in y (put_in is_same_subscriber s subscribers)) (supi_stays s x)
-      ∙ found_put x.supi s subscribers ∙ ap (λ (o : Option Subscriber). option_map (put_one s) o) h.0,
+      ∙ found_put x.supi s subscribers ∙ ap (λ (o : Option Record). option_map (put_one s) o) h.0,
   stay_distinct s subscribers h.1,
 )
 
-none_was : (s : Subscriber) (x : Option Subscriber) → option_map (put_one s) x ≡ None → x ≡ None
+none_was : (s : Record) (x : Option Record) → option_map (put_one s) x ≡ None → x ≡ None
 none_was s None e = refl
 none_was s (Some y) e = absurd (cc)
 
-pub were_distinct : (s : Subscriber) (subscribers : List Subscriber) → AreDistinct (put_in is_same_subscriber s subscribers)
+pub were_distinct : (s : Record) (subscribers : List Record) → AreDistinct (put_in is_same_subscriber s subscribers)
     → AreDistinct subscribers
 were_distinct s [] h = tt
 were_distinct s (x ∷ subscribers) h = (
@@ -137,13 +137,13 @@ were_distinct s (x ∷ subscribers) h = (
 )
 
 -- whatever a record is found by, it is the one of its SUPI
-by_supi : (is : Subscriber → Bool) (x : Subscriber) (subscribers : List Subscriber) (s : Subscriber) (here : Bool)
+by_supi : (is : Record → Bool) (x : Record) (subscribers : List Record) (s : Record) (here : Bool)
     → subscriber_in x.supi subscribers ≡ None
     → (found is subscribers ≡ Some s → subscriber_in s.supi subscribers ≡ Some s)
     → (if here then Some x else found is subscribers) ≡ Some s → subscriber_in s.supi (x ∷ subscribers) ≡ Some s
 by_supi is x subscribers s true new rest e =
     let one : x ≡ s = cc in
-    subst (λ (y : Subscriber). subscriber_in y.supi (x ∷ subscribers) ≡ Some y) one (rw (equals_itself x.supi) refl)
+    subst (λ (y : Record). subscriber_in y.supi (x ∷ subscribers) ≡ Some y) one (rw (equals_itself x.supi) refl)
 by_supi is x subscribers s false new rest e = first_is (bytes_eq x.supi s.supi) refl (rest e)
   where
     first_is : (same : Bool) → bytes_eq x.supi s.supi ≡ same → subscriber_in s.supi subscribers ≡ Some s
@@ -154,34 +154,34 @@ by_supi is x subscribers s false new rest e = first_is (bytes_eq x.supi s.supi) 
         absurd (cc)
     first_is false same h = h
 
-pub found_by_supi : (is : Subscriber → Bool) (subscribers : List Subscriber) (s : Subscriber) → AreDistinct subscribers
+pub found_by_supi : (is : Record → Bool) (subscribers : List Record) (s : Record) → AreDistinct subscribers
     → found is subscribers ≡ Some s → subscriber_in s.supi subscribers ≡ Some s
 found_by_supi is [] s h e = absurd (cc)
 found_by_supi is (x ∷ subscribers) s h e = by_supi is x subscribers s (is x) h.0 (found_by_supi is subscribers s h.1) e
 
 -- what is found is among them
-among_first : (is : Subscriber → Bool) (x : Subscriber) (subscribers : List Subscriber) (s : Subscriber) (here : Bool)
+among_first : (is : Record → Bool) (x : Record) (subscribers : List Record) (s : Record) (here : Bool)
     → (found is subscribers ≡ Some s → IsAmong s subscribers) → (if here then Some x else found is subscribers) ≡ Some s
     → IsAmong s (x ∷ subscribers)
 among_first is x subscribers s true rest e = inl (cc)
 among_first is x subscribers s false rest e = inr (rest e)
 
-pub found_among : (is : Subscriber → Bool) (subscribers : List Subscriber) (s : Subscriber) → found is subscribers ≡ Some s
+pub found_among : (is : Record → Bool) (subscribers : List Record) (s : Record) → found is subscribers ≡ Some s
     → IsAmong s subscribers
 found_among is [] s e = absurd (cc)
 found_among is (x ∷ subscribers) s e = among_first is x subscribers s (is x) (found_among is subscribers s) e
 
 -- and what is put in the place of one that is among them is among them
-pub put_among : (old new : Subscriber) (subscribers : List Subscriber) → new.supi ≡ old.supi
+pub put_among : (old new : Record) (subscribers : List Record) → new.supi ≡ old.supi
     → IsAmong old subscribers → IsAmong new (put_in is_same_subscriber new subscribers)
 put_among old new [] e h = absurd h
 put_among old new (x ∷ subscribers) e (inl is) =
-    let same : x.supi ≡ new.supi = ap (λ (y : Subscriber). y.supi) is ∙ sym e in
+    let same : x.supi ≡ new.supi = ap (λ (y : Record). y.supi) is ∙ sym e in
     inl (put_own new x (ap (λ (y : List ℕ). bytes_eq y new.supi) same ∙ equals_itself new.supi))
 put_among old new (x ∷ subscribers) e (inr h) = inr (put_among old new subscribers e h)
 
 -- one that is among them was put, or was among them
-put_or : (s x found : Subscriber) (same : Bool) → bytes_eq x.supi s.supi ≡ same → put_one s x ≡ found → (s ≡ found) ⊎ (x ≡ found)
+put_or : (s x found : Record) (same : Bool) → bytes_eq x.supi s.supi ≡ same → put_one s x ≡ found → (s ≡ found) ⊎ (x ≡ found)
 put_or s x found true e is = inl (sym (put_own s x e) ∙ is)
 put_or s x found false e is = inr (sym (put_other s x e) ∙ is)
 
@@ -189,7 +189,7 @@ lifted_or : {A B C : Type 0} → A ⊎ B → (B → C) → A ⊎ C
 lifted_or (inl a) f = inl a
 lifted_or (inr b) f = inr (f b)
 
-pub among_or : (s found : Subscriber) (subscribers : List Subscriber) → IsAmong found (put_in is_same_subscriber s subscribers)
+pub among_or : (s found : Record) (subscribers : List Record) → IsAmong found (put_in is_same_subscriber s subscribers)
     → (s ≡ found) ⊎ IsAmong found subscribers
 among_or s found [] h = absurd h
 among_or s found (x ∷ subscribers) (inl is) = lifted_or (put_or s x found (bytes_eq x.supi s.supi) refl is) (λ old. inl old)

@@ -19,7 +19,7 @@ use Rattle.amf_core.specs.declared.procedures.Procedure.{Procedure}
 use Rattle.amf_core.specs.declared.procedures.Procedure.TheVariants as procedures
 use Rattle.amf_core.specs.declared.procedures.Purpose.TheVariants.{Registration}
 use Rattle.amf_core.specs.declared.requests.Request.{Request}
-use Rattle.amf_core.specs.declared.subscriber.Subscriber.{Subscriber}
+use Rattle.amf_core.specs.declared.subscriber.Record.{Record}
 use Rattle.nas_base.proofs.Branching.{per_holds, when_holds}
 use Rattle.amf_laws.proofs.ChallengeRows.{challenge_settles, ended_moves, say_on_moves, stopped_moves}
 use Rattle.amf_laws.proofs.Moves.{Beginning, MayLink, Own, by_link_may, links_now, own_protection_may, Moves, Settled, settled}
@@ -33,7 +33,7 @@ same_link May number records link n e =
     let one : number ≡ n = cc in subst (λ (k : ℕ). MayLink May k records) one link
 
 -- a request
-weighed_settles : {May : List ℕ → Type 0} {b : Beginning} {w : Work} (number : ℕ) (passed : Option (List ℕ)) (r : Request) (s : Subscriber)
+weighed_settles : {May : List ℕ → Type 0} {b : Beginning} {w : Work} (number : ℕ) (passed : Option (List ℕ)) (r : Request) (s : Record)
     → Own May b s → MayLink May number (links_now w) → Moves May b (running_in s.procedure) (running_in s.procedure) w
     → Settled May b (request_weighed number passed r s w)
 unfolding request_weighed
@@ -44,7 +44,7 @@ weighed_settles {May} {b} {w} number passed r s e link h =
     (λ _. challenge_settles (Registration r) (Some number) (counting_capability r s) s e (same_link May number (links_now w) link) h))
     (λ a _. settled (said number (Ciphered s.supi) _ e.2 h)))
 
-pub requested_settles : {May : List ℕ → Type 0} {b : Beginning} {w : Work} (number : ℕ) (passed : Option (List ℕ)) (r : Request) (s : Subscriber)
+pub requested_settles : {May : List ℕ → Type 0} {b : Beginning} {w : Work} (number : ℕ) (passed : Option (List ℕ)) (r : Request) (s : Record)
     → Own May b s → MayLink May number (links_now w) → Moves May b (running_in s.procedure) (running_in s.procedure) w
     → Settled May b (requested number passed r s w)
 unfolding requested
@@ -54,7 +54,7 @@ requested_settles {May} {b} {w} number passed r s e link h =
     (λ _. settled (said number _ _ (own_protection_may May (link_of number w) link) h))
 
 -- an acceptance
-released_moves : {May : List ℕ → Type 0} {b : Beginning} {p q : Running} {w : Work} (whole : Whole) (s : Subscriber) → Moves May b p q w → Moves May b p q (released whole s w)
+released_moves : {May : List ℕ → Type 0} {b : Beginning} {p q : Running} {w : Work} (whole : Whole) (s : Record) → Moves May b p q w → Moves May b p q (released whole s w)
 released_moves {May} {b} {p} {q} {w} whole s h =
     when_holds (λ (x : Work). Moves May b p q x) (is_initial whole.registration) _ _ (λ _. asked _ s h)
     (λ _. per_holds (λ (x : Work). Moves May b p q x) whole.status w _ (λ _. h) (λ held _. asked _ s h))
@@ -64,16 +64,16 @@ kept_with_few named g kept =
     per_holds (λ (x : List Guti). AreFew x) named (g ∷ []) _ (λ _. omega arith)
     (λ y _. when_holds (λ (x : List Guti). AreFew x) (is_any (is_guti y) kept) (y ∷ g ∷ []) (g ∷ []) (λ _. omega arith) (λ _. omega arith))
 
-offered_moves : {May : List ℕ → Type 0} {b : Beginning} {q : Running} {w : Work} (number : ℕ) (r : Request) (whole : Whole) (challenge : Challenge) (s : Subscriber)
+offered_moves : {May : List ℕ → Type 0} {b : Beginning} {q : Running} {w : Work} (number : ℕ) (r : Request) (whole : Whole) (challenge : Challenge) (s : Record)
     → Own May b s → Moves May b none_runs q w
     → Moves May b (with_timer T3550 true none_runs) (with_timer T3550 true none_runs) (offered number r whole challenge s w)
 offered_moves {May} {b} {q} {w} number r whole challenge s e h =
     let a : Accepting = record { request = r; guti = new_guti (config_of w) (tmsi_of w); status = told_sessions whole s; sendings = 1 } in
-    let new : Subscriber = opened_acceptance a whole.guti challenge s in
+    let new : Record = opened_acceptance a whole.guti challenge s in
     let few : Own May b new = (e.0, λ kept. kept_with_few whole.guti a.guti s.kept, e.2) in
     starts T3550 new few (said number (Ciphered s.supi) _ e.2 (puts new few (numbers h)))
 
-pub goes_on_settles : {May : List ℕ → Type 0} {b : Beginning} {w : Work} (number : ℕ) (r : Request) (whole : Whole) (context : SecurityContext) (s : Subscriber)
+pub goes_on_settles : {May : List ℕ → Type 0} {b : Beginning} {w : Work} (number : ℕ) (r : Request) (whole : Whole) (context : SecurityContext) (s : Record)
     → Own May b s → Moves May b none_runs none_runs w → Settled May b (registration_goes_on number r whole context s w)
 unfolding registration_goes_on
 goes_on_settles {May} {b} {w} number r whole context s e h =
@@ -81,7 +81,7 @@ goes_on_settles {May} {b} {w} number r whole context s e h =
     (λ _. settled (offered_moves number r whole context.challenge s e (released_moves whole s h)))
     (λ _. settled (said number _ _ (by_link_may May (link_of number (released whole s w)) s.supi e.2) (released_moves whole s h)))
 
-acceptance_ended_settles : {May : List ℕ → Type 0} {b : Beginning} {w : Work} (procedure : Procedure) (s : Subscriber) → Own May b s → s.procedure ≡ procedure
+acceptance_ended_settles : {May : List ℕ → Type 0} {b : Beginning} {w : Work} (procedure : Procedure) (s : Record) → Own May b s → s.procedure ≡ procedure
     → Moves May b (running_in s.procedure) (running_in s.procedure) w → Settled May b (acceptance_ended procedure s w)
 acceptance_ended_settles (procedures.Accepting a) s e is h = settled (ended_moves s e h)
 acceptance_ended_settles procedures.Idle s e is h = settled (puts s e h)
@@ -91,7 +91,7 @@ acceptance_ended_settles (procedures.Deregistering d) s e is h = settled (puts s
 one_few : (g : Guti) → AreFew (g ∷ [])
 one_few g = omega arith
 
-pub completed_settles : {May : List ℕ → Type 0} {b : Beginning} {w : Work} (challenge : Challenge) (s : Subscriber) → Own May b s
+pub completed_settles : {May : List ℕ → Type 0} {b : Beginning} {w : Work} (challenge : Challenge) (s : Record) → Own May b s
     → Moves May b (running_in s.procedure) (running_in s.procedure) w → Settled May b (registration_completed challenge s w)
 unfolding registration_completed
 completed_settles {May} {b} {w} challenge s e h =
@@ -100,26 +100,26 @@ completed_settles {May} {b} {w} challenge s e h =
     (λ _. acceptance_ended_settles s.procedure (confirmed o.guti s) (e.0, λ kept. one_few o.guti, e.2) refl h) (λ _. settled h))
 
 -- a de-registration
-deregistered_moves : {May : List ℕ → Type 0} {b : Beginning} {q : Running} {w : Work} (s : Subscriber) → Own May b s
+deregistered_moves : {May : List ℕ → Type 0} {b : Beginning} {q : Running} {w : Work} (s : Record) → Own May b s
     → Moves May b (running_in s.procedure) q w → Moves May b none_runs none_runs (deregistered s w)
 unfolding deregistered
 deregistered_moves s e h = asked _ s (puts (unregistered s) e (stopped_moves s e h))
 
-pub deregistration_requested_settles : {May : List ℕ → Type 0} {b : Beginning} {w : Work} (m : DeregistrationRequestUeOriginating) (number : ℕ) (s : Subscriber) → Own May b s
+pub deregistration_requested_settles : {May : List ℕ → Type 0} {b : Beginning} {w : Work} (m : DeregistrationRequestUeOriginating) (number : ℕ) (s : Record) → Own May b s
     → Moves May b (running_in s.procedure) (running_in s.procedure) w → Settled May b (deregistration_requested m number s w)
 unfolding deregistration_requested
 deregistration_requested_settles {May} {b} {w} m number s e h =
     when_holds (λ (x : Work). Settled May b x) m.switch_off _ _ (λ _. settled (deregistered_moves s e h))
     (λ _. settled (said number (Ciphered s.supi) _ e.2 (deregistered_moves s e h)))
 
-pub deregistration_accepted_settles : {May : List ℕ → Type 0} {b : Beginning} {w : Work} (number : ℕ) (s : Subscriber) → Own May b s
+pub deregistration_accepted_settles : {May : List ℕ → Type 0} {b : Beginning} {w : Work} (number : ℕ) (s : Record) → Own May b s
     → Moves May b (running_in s.procedure) (running_in s.procedure) w → Settled May b (deregistration_accepted number s w)
 unfolding deregistration_accepted
 deregistration_accepted_settles {May} {b} {w} number s e h =
     when_holds (λ (x : Work). Settled May b x) (is_deregistering s.procedure && is_on number s.link) _ _
     (λ _. settled (deregistered_moves s e h)) (λ _. settled h)
 
-pub deregistration_put_moves : {May : List ℕ → Type 0} {b : Beginning} {p q : Running} {w : Work} (d : Deregistering) (s : Subscriber) → Own May b s
+pub deregistration_put_moves : {May : List ℕ → Type 0} {b : Beginning} {p q : Running} {w : Work} (d : Deregistering) (s : Record) → Own May b s
     → Moves May b p q w → Moves May b (with_timer T3522 true p) (with_timer T3522 true none_runs) (deregistration_put d s w)
 deregistration_put_moves d s e h =
     starts T3522 s e (say_on_moves s.link (Ciphered s.supi) _ e.2 (puts (record s { procedure = procedures.Deregistering d }) e h))

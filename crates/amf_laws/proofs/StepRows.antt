@@ -18,7 +18,7 @@ use Rattle.amf_core.specs.declared.inputs.AmfInput.{AmfInput}
 use Rattle.amf_core.specs.declared.inputs.AmfInput.TheVariants.{Uplink, Expired, Authenticate, Deregister, Fence, Sessions, Down, Dropped}
 use Rattle.amf_core.specs.declared.inputs.AmfRefusal.{AmfRefusal}
 use Rattle.amf_core.specs.declared.link.Link.{Link}
-use Rattle.amf_core.specs.declared.subscriber.Subscriber.{Subscriber}
+use Rattle.amf_core.specs.declared.subscriber.Record.{Record}
 use Rattle.amf_laws.proofs.AnswerRows.{brought_down_moves}
 use Rattle.nas_base.proofs.Branching.{per_holds}
 use Rattle.amf_laws.proofs.Chains.{Chain, Received, kept_now}
@@ -34,7 +34,7 @@ use Rattle.amf_laws.specs.Passing.{IsAmong}
 use Rattle.amf_laws.specs.Timers.{running_in, with_timer}
 
 -- a row begins with this subscriber, where nothing of one has changed yet
-pub record IsOne (May : List ℕ → Type 0) (a : AmfState) (s : Subscriber) (b : Beginning) : Type 0 where
+pub record IsOne (May : List ℕ → Type 0) (a : AmfState) (s : Record) (b : Beginning) : Type 0 where
   pub at_start : IsAtStart a b.first
   pub supi : b.supi ≡ s.supi
   pub kept : b.kept ≡ s.kept
@@ -44,7 +44,7 @@ pub record IsOne (May : List ℕ → Type 0) (a : AmfState) (s : Subscriber) (b 
 -- the rows that octets come to, the row of one subscriber, or none
 pub data Comes (May : List ℕ → Type 0) (a : AmfState) : Work → Type 0 where
   chains : {w : Work} (u : Received) → IsAtStart a u.first → Chain May u w → Comes May a w
-  settles : {w : Work} (b : Beginning) (s : Subscriber) → IsOne May a s b → Settled May b w → Comes May a w
+  settles : {w : Work} (b : Beginning) (s : Record) → IsOne May a s b → Settled May b w → Comes May a w
   stays : {w : Work} → IsAtStart a w → Comes May a w
 
 abbrev pub ComesBy : (List ℕ → Type 0) → AmfState → Result Work AmfRefusal → Type 0
@@ -64,7 +64,7 @@ MayHave May a home now rand (Sessions supi status) = May supi
 MayHave May a home now rand (Down supi psi frame) = May supi
 
 -- the row of the subscriber of a SUPI
-one_of : (May : List ℕ → Type 0) (a : AmfState) (supi : List ℕ) (w : Work) (s : Subscriber) → IsAtStart a w → May supi
+one_of : (May : List ℕ → Type 0) (a : AmfState) (supi : List ℕ) (w : Work) (s : Record) → IsAtStart a w → May supi
     → subscriber supi w ≡ Some s → IsOne May a s (begins s w)
 one_of May a supi w s at_start may e = record {
   at_start = at_start;
@@ -74,22 +74,22 @@ one_of May a supi w s at_start may e = record {
   may = subst May (sym (found_has supi (kept_now w) s e)) may;
 }
 
-of_supi_comes : (May : List ℕ → Type 0) (a : AmfState) (supi : List ℕ) (row : Subscriber → Work → Work) (w : Work)
-    → IsAtStart a w → May supi → ((s : Subscriber) → May s.supi → Settled May (begins s w) (row s w)) → Comes May a (of_supi supi row w)
+of_supi_comes : (May : List ℕ → Type 0) (a : AmfState) (supi : List ℕ) (row : Record → Work → Work) (w : Work)
+    → IsAtStart a w → May supi → ((s : Record) → May s.supi → Settled May (begins s w) (row s w)) → Comes May a (of_supi supi row w)
 of_supi_comes May a supi row w at_start may done =
     per_holds (λ (y : Work). Comes May a y) (subscriber supi w) w _ (λ _. stays at_start)
     (λ s e.
     let one : IsOne May a s (begins s w) = one_of May a supi w s at_start may e in
     settles (begins s w) s one (done s one.may))
 
-comes_by : (May : List ℕ → Type 0) (a : AmfState) (b : Beginning) (s : Subscriber) (done : Result Work AmfRefusal) → IsOne May a s b
+comes_by : (May : List ℕ → Type 0) (a : AmfState) (b : Beginning) (s : Record) (done : Result Work AmfRefusal) → IsOne May a s b
     → SettledBy May b done → ComesBy May a done
 comes_by May a b s (Ok w) one done = settles b s one done
 comes_by May a b s (Err refusal) one done = tt
 
-of_supi_comes_by : (May : List ℕ → Type 0) (a : AmfState) (supi : List ℕ) (row : Subscriber → Work → Result Work AmfRefusal)
-    (refusal : AmfRefusal) (w : Work) → IsAtStart a w → May supi → ((s : Subscriber) → May s.supi → SettledBy May (begins s w) (row s w))
-    → ComesBy May a (per (subscriber supi w) (Err refusal) (λ (s : Subscriber). row s w))
+of_supi_comes_by : (May : List ℕ → Type 0) (a : AmfState) (supi : List ℕ) (row : Record → Work → Result Work AmfRefusal)
+    (refusal : AmfRefusal) (w : Work) → IsAtStart a w → May supi → ((s : Record) → May s.supi → SettledBy May (begins s w) (row s w))
+    → ComesBy May a (per (subscriber supi w) (Err refusal) (λ (s : Record). row s w))
 of_supi_comes_by May a supi row refusal w at_start may done =
     per_holds (λ (y : Result Work AmfRefusal). ComesBy May a y) (subscriber supi w) (Err refusal) _ (λ _. tt)
     (λ s e.

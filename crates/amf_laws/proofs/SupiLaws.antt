@@ -11,7 +11,7 @@ use Rattle.amf_core.specs.declared.acts.Act.TheVariants.{Say, Tell}
 use Rattle.amf_core.specs.declared.acts.Protection.{Protection}
 use Rattle.amf_core.specs.declared.inputs.AmfInput.{AmfInput}
 use Rattle.amf_core.specs.declared.inputs.AmfRefusal.{AmfRefusal}
-use Rattle.amf_core.specs.declared.subscriber.Subscriber.{Subscriber}
+use Rattle.amf_core.specs.declared.subscriber.Record.{Record}
 use Rattle.amf_laws.proofs.Chains.{Chain, Received, kept_now}
 use Rattle.amf_laws.proofs.Chains.Chain.{nothing, speaks, waits, passes, does}
 use Rattle.amf_laws.proofs.FramedFit.{Sends, framed_now, says_send}
@@ -27,7 +27,7 @@ use Rattle.amf_laws.specs.Kept.{SupisStay, supis}
 use Rattle.amf_laws.specs.Timers.{Running}
 
 -- a record that is put
-put_supis : (s : Subscriber) (subscribers : List Subscriber) → supis (put_in is_same_subscriber s subscribers) ≡ supis subscribers
+put_supis : (s : Record) (subscribers : List Record) → supis (put_in is_same_subscriber s subscribers) ≡ supis subscribers
 put_supis s [] = refl
 put_supis s (x ∷ subscribers) = ap₂ (λ (y : List ℕ) (ys : List (List ℕ)). y ∷ ys) (supi_stays s x) (put_supis s subscribers)
 

@@ -16,7 +16,7 @@ use Rattle.amf_core.specs.Work.{Work, link_of, put_link, subscriber}
 use Rattle.amf_core.specs.declared.inputs.AmfInput.{AmfInput}
 use Rattle.amf_core.specs.declared.inputs.AmfInput.TheVariants.{Uplink, Expired, Authenticate, Deregister, Fence, Sessions, Down, Dropped}
 use Rattle.amf_core.specs.declared.inputs.AmfRefusal.{AmfRefusal}
-use Rattle.amf_core.specs.declared.subscriber.Subscriber.{Subscriber}
+use Rattle.amf_core.specs.declared.subscriber.Record.{Record}
 use Rattle.amf_laws.proofs.AnswerRows.{brought_down_moves}
 use Rattle.nas_base.proofs.Branching.{per_holds, when_holds}
 use Rattle.amf_laws.proofs.Chains.{Chain, Received, found_before, kept_now}
@@ -64,8 +64,8 @@ settled_left : {x : List ℕ} {r : Running} {May : List ℕ → Type 0} {b : Beg
     → Settled May b w → Left x r w
 settled_left {x} {r} distinct begun done = record { fits = settled_fits x r begun done; distinct = moves_distinct distinct done.moves }
 
-of_supi_left : (x : List ℕ) (r : Running) (supi : List ℕ) (row : Subscriber → Work → Work) (w : Work)
-    → Left x r w → ((s : Subscriber) → Settled (λ (y : List ℕ). Unit {0}) (begins s w) (row s w)) → Left x r (of_supi supi row w)
+of_supi_left : (x : List ℕ) (r : Running) (supi : List ℕ) (row : Record → Work → Work) (w : Work)
+    → Left x r w → ((s : Record) → Settled (λ (y : List ℕ). Unit {0}) (begins s w) (row s w)) → Left x r (of_supi supi row w)
 of_supi_left x r supi row w h done =
     per_holds (λ (y : Work). Left x r y) (subscriber supi w) w _ (λ _. h)
     (λ s e. settled_left h.distinct (fit_begins x r s w (found_before supi w s e) h.fits) (done s))
@@ -76,9 +76,9 @@ settled_left_by : (May : List ℕ → Type 0) {x : List ℕ} {r : Running} {b : 
 settled_left_by May (Ok w) distinct begun done = settled_left distinct begun done
 settled_left_by May (Err refusal) distinct begun done = tt
 
-of_supi_left_by : (x : List ℕ) (r : Running) (supi : List ℕ) (row : Subscriber → Work → Result Work AmfRefusal)
-    (refusal : AmfRefusal) (w : Work) → Left x r w → ((s : Subscriber) → SettledBy (λ (y : List ℕ). Unit {0}) (begins s w) (row s w))
-    → LeftBy x r (per (subscriber supi w) (Err refusal) (λ (s : Subscriber). row s w))
+of_supi_left_by : (x : List ℕ) (r : Running) (supi : List ℕ) (row : Record → Work → Result Work AmfRefusal)
+    (refusal : AmfRefusal) (w : Work) → Left x r w → ((s : Record) → SettledBy (λ (y : List ℕ). Unit {0}) (begins s w) (row s w))
+    → LeftBy x r (per (subscriber supi w) (Err refusal) (λ (s : Record). row s w))
 of_supi_left_by x r supi row refusal w h done =
     per_holds (λ (y : Result Work AmfRefusal). LeftBy x r y) (subscriber supi w) (Err refusal) _ (λ _. tt)
     (λ s e. settled_left_by (λ (y : List ℕ). Unit {0}) (row s w) h.distinct (fit_begins x r s w (found_before supi w s e) h.fits) (done s))
@@ -107,7 +107,7 @@ received_left x r number octets w h =
     record { fits = chain_fits x r h.distinct h.fits chain; distinct = chain_distinct h.distinct chain }
 
 -- a timer that expires
-expired_begins : (x : List ℕ) (running : Running) (supi : List ℕ) (id : TimerId) (s : Subscriber) (w : Work) (own : Bool) → bytes_eq supi x ≡ own
+expired_begins : (x : List ℕ) (running : Running) (supi : List ℕ) (id : TimerId) (s : Record) (w : Work) (own : Bool) → bytes_eq supi x ≡ own
     → w.acts ≡ [] → running ≡ running_for (subscriber_in x (kept_now w)) → subscriber supi w ≡ Some s
     → IsBegun x (if own then with_timer id false running else running)
     (record { supi = s.supi; kept = s.kept; first = w; told = with_timer id false (running_in s.procedure); opened = running_in s.procedure })

@@ -23,7 +23,7 @@ use Rattle.amf_core.specs.declared.acts.Protection.{Protection}
 use Rattle.amf_core.specs.declared.acts.Protection.TheVariants.{Plain}
 use Rattle.amf_core.specs.declared.link.Link.{Link}
 use Rattle.amf_core.specs.declared.outs.AmfOut.TheVariants.{Send}
-use Rattle.amf_core.specs.declared.subscriber.Subscriber.{Subscriber}
+use Rattle.amf_core.specs.declared.subscriber.Record.{Record}
 use Rattle.nas_base.proofs.Branching.{per_holds, when_false, when_holds, when_true}
 use Rattle.amf_laws.proofs.Chains.{link_is_current}
 use Rattle.amf_laws.proofs.DeliveryRows.{sender_is_current}
@@ -40,7 +40,7 @@ none_opened context octets small nothing = by_option (opened context octets) ref
     by_option (Some o) e =
         let are = something_passes context octets o small e in absurd (nothing o.count are.0 o.message are.1)
 
-not_in_use : (a : AmfState) (number : ℕ) (octets : List ℕ) (s : Subscriber) → get_or octets 6 0 < 256 → PassNoCheck a number octets
+not_in_use : (a : AmfState) (number : ℕ) (octets : List ℕ) (s : Record) → get_or octets 6 0 < 256 → PassNoCheck a number octets
     → IsAmong s a.subscribers → checked_in_use number octets s ≡ None
 unfolding checked_in_use
 not_in_use a number octets s small no_check among =
@@ -50,7 +50,7 @@ not_in_use a number octets s small no_check among =
     let none : opened context octets ≡ None = none_opened context octets small (no_check s context among (inl has)) in
     absurd (cc)))
 
-not_pending : (a : AmfState) (number : ℕ) (octets : List ℕ) (s : Subscriber) → get_or octets 6 0 < 256 → PassNoCheck a number octets
+not_pending : (a : AmfState) (number : ℕ) (octets : List ℕ) (s : Record) → get_or octets 6 0 < 256 → PassNoCheck a number octets
     → IsAmong s a.subscribers → checked_pending number octets s ≡ None
 unfolding checked_pending
 not_pending a number octets s small no_check among =
@@ -60,8 +60,8 @@ not_pending a number octets s small no_check among =
     let none : opened m.context octets ≡ None = none_opened m.context octets small (no_check s m.context among (inr (m, has, refl))) in
     absurd (cc)))
 
-not_checked : (a : AmfState) (number : ℕ) (octets : List ℕ) (found : Option Subscriber) → get_or octets 6 0 < 256 → PassNoCheck a number octets
-    → ((s : Subscriber) → found ≡ Some s → IsAmong s a.subscribers) → check_of found number octets ≡ None
+not_checked : (a : AmfState) (number : ℕ) (octets : List ℕ) (found : Option Record) → get_or octets 6 0 < 256 → PassNoCheck a number octets
+    → ((s : Record) → found ≡ Some s → IsAmong s a.subscribers) → check_of found number octets ≡ None
 not_checked a number octets found small no_check among =
     per_holds (λ (x : Option Passage). x ≡ None) found None _ (λ _. refl)
     (λ s e. not_in_use a number octets s small no_check (among s e))
@@ -78,14 +78,14 @@ record IsUnchecked (a : AmfState) (number : ℕ) (octets : List ℕ) (w : Work) 
   at_start : IsAtStart a w
 
 link_among : {a : AmfState} {number : ℕ} {octets : List ℕ} {w : Work} → IsUnchecked a number octets w
-    → (s : Subscriber) → subscriber_of_link number w ≡ Some s → IsAmong s a.subscribers
+    → (s : Record) → subscriber_of_link number w ≡ Some s → IsAmong s a.subscribers
 link_among {a} {number} {octets} {w} h s e =
-    subst (λ (y : List Subscriber). IsAmong s y) h.at_start.kept (link_is_current number w s e).among
+    subst (λ (y : List Record). IsAmong s y) h.at_start.kept (link_is_current number w s e).among
 
 sender_among : {a : AmfState} {number : ℕ} {octets : List ℕ} {w : Work} → IsUnchecked a number octets w → (m : Option Mm)
-    → (s : Subscriber) → sender number m w ≡ Some s → IsAmong s a.subscribers
+    → (s : Record) → sender number m w ≡ Some s → IsAmong s a.subscribers
 sender_among {a} {number} {octets} {w} h m s e =
-    subst (λ (y : List Subscriber). IsAmong s y) h.at_start.kept (sender_is_current number m w s e).among
+    subst (λ (y : List Record). IsAmong s y) h.at_start.kept (sender_is_current number m w s e).among
 
 -- header type 1
 integrity_fails : {a : AmfState} {number : ℕ} {octets : List ℕ} {w : Work} → IsUnchecked a number octets w

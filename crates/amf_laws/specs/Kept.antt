@@ -4,7 +4,7 @@ use Rattle.nas_elements.specs.declared.guti.Guti.{Guti}
 use Rattle.amf_core.specs.State.{AmfState}
 use Rattle.amf_core.specs.Step.{Stepped}
 use Rattle.amf_core.specs.declared.inputs.AmfRefusal.{AmfRefusal}
-use Rattle.amf_core.specs.declared.subscriber.Subscriber.{Subscriber}
+use Rattle.amf_core.specs.declared.subscriber.Record.{Record}
 use Rattle.amf_laws.specs.Passing.{IsAmong}
 
 -- two at most
@@ -12,8 +12,8 @@ abbrev pub AreFew : List Guti → Type 0
 AreFew kept = length kept ≤ 2
 
 -- for each subscriber
-abbrev pub KeepFew : List Subscriber → Type 0
-KeepFew subscribers = (s : Subscriber) → IsAmong s subscribers → AreFew s.kept
+abbrev pub KeepFew : List Record → Type 0
+KeepFew subscribers = (s : Record) → IsAmong s subscribers → AreFew s.kept
 
 -- behind a step where it was so before it
 abbrev pub StayFew : AmfState → Result Stepped AmfRefusal → Type 0
@@ -21,7 +21,7 @@ StayFew a (Ok new) = KeepFew a.subscribers → KeepFew new.amf.subscribers
 StayFew a (Err refusal) = Unit {0}
 
 -- the SUPIs that are kept, in the order of the configuration
-abbrev pub supis : List Subscriber → List (List ℕ)
+abbrev pub supis : List Record → List (List ℕ)
 supis [] = []
 supis (s ∷ subscribers) = s.supi ∷ supis subscribers
 

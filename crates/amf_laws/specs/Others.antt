@@ -13,12 +13,12 @@ use Rattle.amf_core.specs.Step.{Stepped}
 use Rattle.amf_core.specs.declared.inputs.AmfInput.{AmfInput}
 use Rattle.amf_core.specs.declared.inputs.AmfInput.TheVariants.{Uplink, Expired, Authenticate, Deregister, Fence, Sessions, Down, Dropped}
 use Rattle.amf_core.specs.declared.inputs.AmfRefusal.{AmfRefusal}
-use Rattle.amf_core.specs.declared.subscriber.Subscriber.{Subscriber}
+use Rattle.amf_core.specs.declared.subscriber.Record.{Record}
 use Rattle.amf_laws.specs.Passing.{IsAmong, IsContextOf}
 
 -- a subscriber of this SUPI keeps what a test holds of
-pub record IsKeeper (is : Subscriber → Bool) (a : AmfState) (supi : List ℕ) : Type 0 where
-  pub subscriber : Subscriber
+pub record IsKeeper (is : Record → Bool) (a : AmfState) (supi : List ℕ) : Type 0 where
+  pub subscriber : Record
   pub is_kept : IsAmong subscriber a.subscribers
   pub is_its : subscriber.supi ≡ supi
   pub keeps : is subscriber ≡ true
@@ -40,7 +40,7 @@ identity_in message = None
 
 -- octets open to a message under a context of a subscriber that is kept
 pub record OpenTo (a : AmfState) (number : ℕ) (octets message : List ℕ) : Type 0 where
-  pub subscriber : Subscriber
+  pub subscriber : Record
   pub context : SecurityContext
   pub count : ℕ
   pub is_kept : IsAmong subscriber a.subscribers

@@ -19,22 +19,22 @@ use Rattle.amf_core.specs.declared.inputs.AmfRefusal.{AmfRefusal}
 use Rattle.amf_core.specs.declared.outs.AmfOut.{AmfOut}
 use Rattle.amf_core.specs.declared.outs.AmfOut.TheVariants.{Send, Passed, Smf, Start, Stop}
 use Rattle.amf_core.specs.declared.security_mode.Commanding.{Commanding}
-use Rattle.amf_core.specs.declared.subscriber.Subscriber.{Subscriber}
+use Rattle.amf_core.specs.declared.subscriber.Record.{Record}
 
 -- one of these records
-abbrev pub IsAmong : Subscriber → List Subscriber → Type 0
+abbrev pub IsAmong : Record → List Record → Type 0
 IsAmong s [] = ⊥
 IsAmong s (x ∷ others) = (x ≡ s) ⊎ IsAmong s others
 
 -- A context of a subscriber that octets on a link may be checked under: the one in use, or the one that was commanded on this link.
-abbrev pub IsContextOf : ℕ → SecurityContext → Subscriber → Type 0
+abbrev pub IsContextOf : ℕ → SecurityContext → Record → Type 0
 IsContextOf number context s =
     (s.in_use ≡ Some context) ⊎ ((o : Commanding) × (commanding_on number s.procedure ≡ Some o) × (o.context ≡ context))
 
 -- These octets passed a check of a subscriber that is kept, as it is told: they pass under a context of it that has this challenge, at
 -- this count.
 pub record WasChecked (a : AmfState) (number : ℕ) (octets : List ℕ) (pass : Pass) : Type 0 where
-  pub subscriber : Subscriber
+  pub subscriber : Record
   pub context : SecurityContext
   pub header : ℕ
   pub message : List ℕ
@@ -83,7 +83,7 @@ NothingPasses context octets = (count header : ℕ) (message : List ℕ) → ¬ 
 -- octets on a link pass no check of any subscriber
 abbrev pub PassNoCheck : AmfState → ℕ → List ℕ → Type 0
 PassNoCheck a number octets =
-    (s : Subscriber) (context : SecurityContext) → IsAmong s a.subscribers → IsContextOf number context s → NothingPasses context octets
+    (s : Record) (context : SecurityContext) → IsAmong s a.subscribers → IsContextOf number context s → NothingPasses context octets
 
 -- On a secure link octets that pass no check change nothing, and are answered by nothing.
 abbrev pub UncheckedDoNothing : AmfState → List HomeRecord → ℕ → List ℕ → ℕ → List ℕ → Type 0

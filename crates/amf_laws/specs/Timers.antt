@@ -12,7 +12,7 @@ use Rattle.amf_core.specs.declared.outs.AmfOut.{AmfOut}
 use Rattle.amf_core.specs.declared.outs.AmfOut.TheVariants.{Send, Passed, Smf, Start, Stop}
 use Rattle.amf_core.specs.declared.procedures.Procedure.{Procedure}
 use Rattle.amf_core.specs.declared.procedures.Procedure.TheVariants as procedures
-use Rattle.amf_core.specs.declared.subscriber.Subscriber.{Subscriber}
+use Rattle.amf_core.specs.declared.subscriber.Record.{Record}
 
 -- the timers of a subscriber's procedures: T3560 of a challenge, T3550 of an acceptance, T3522 of a de-registration
 pub record Running : Type 0 where
@@ -45,7 +45,7 @@ running_in (procedures.Challenging c) = with_timer T3560 true none_runs
 running_in (procedures.Accepting a) = with_timer T3550 true none_runs
 running_in (procedures.Deregistering d) = with_timer T3522 true none_runs
 
-abbrev pub running_for : Option Subscriber → Running
+abbrev pub running_for : Option Record → Running
 running_for None = none_runs
 running_for (Some s) = running_in s.procedure
 
@@ -85,7 +85,7 @@ abbrev pub FitProcedures : AmfState → (List ℕ → Running) → Type 0
 FitProcedures a running = (supi : List ℕ) → running supi ≡ running_of supi a
 
 -- no SUPI is kept twice
-abbrev pub AreDistinct : List Subscriber → Type 0
+abbrev pub AreDistinct : List Record → Type 0
 AreDistinct [] = Unit {0}
 AreDistinct (s ∷ others) = (subscriber_in s.supi others ≡ None) × AreDistinct others
 

@@ -3,7 +3,7 @@ use Rattle.std.proofs.Common.{◌≡◌, ap, refl, ℕ, Bool, true, false, List,
 use Rattle.std.specs.Str.{bytes_eq}
 use Rattle.nas_timers.specs.Timers.{Running}
 use Rattle.amf_core.specs.State.{subscriber_in}
-use Rattle.amf_core.specs.declared.subscriber.Subscriber.{Subscriber}
+use Rattle.amf_core.specs.declared.subscriber.Record.{Record}
 use Rattle.amf_laws.proofs.Records.{are_equal}
 use Rattle.amf_laws.specs.Kept.{supis}
 use Rattle.nas_network.specs.Owners.{timed}
@@ -59,7 +59,7 @@ no_timers_of x (s ∷ ss) none = by_test (bytes_eq s.supi x) none (no_timers_of 
   by_test true h rest = absurd (cc h)
   by_test false h rest = rest h
 
-pub no_record_of : (x : List ℕ) (ss : List Subscriber) → is_one_of x (supis ss) ≡ false → subscriber_in x ss ≡ None
+pub no_record_of : (x : List ℕ) (ss : List Record) → is_one_of x (supis ss) ≡ false → subscriber_in x ss ≡ None
 no_record_of x [] none = refl
 no_record_of x (s ∷ ss) none = by_test (bytes_eq s.supi x) none (no_record_of x ss) where
   by_test : (b : Bool) → (if b then true else is_one_of x (supis ss)) ≡ false → (is_one_of x (supis ss) ≡ false → subscriber_in x ss ≡ None)

@@ -5,7 +5,7 @@ use Rattle.nas_timers.specs.Timers as timers
 use Rattle.nas_timers.specs.Timers.{deadline_of}
 use Rattle.nas_timers.specs.declared.timer_id.TimerId.TheVariants.{T3522, T3550, T3560}
 use Rattle.amf_core.specs.declared.inputs.AmfInput.{AmfInput}
-use Rattle.amf_core.specs.declared.subscriber.Subscriber.{Subscriber}
+use Rattle.amf_core.specs.declared.subscriber.Record.{Record}
 use Rattle.amf_laws.specs.Kept.{supis}
 use Rattle.amf_laws.specs.Timers.{AreDistinct, FitProcedures, Running, expired_by}
 use Rattle.nas_network.specs.State.{NetworkState, SubscriberTimers, timers_of}
@@ -28,10 +28,10 @@ timed [] = []
 timed (s ∷ ss) = s.supi ∷ timed ss
 
 -- two 5G-GUTIs at most are kept for each subscriber (TS 24.501 clause 5.5.1.2.4)
-abbrev pub keeps_few : Subscriber → Bool
+abbrev pub keeps_few : Record → Bool
 keeps_few s = nat_le (length s.kept) 2
 
-abbrev pub all_keep_few : List Subscriber → Bool
+abbrev pub all_keep_few : List Record → Bool
 all_keep_few subscribers = list_all keeps_few subscribers
 
 -- The timer of a procedure runs exactly while that procedure is open, for each SUPI. No SUPI is kept twice, timers are kept for those
