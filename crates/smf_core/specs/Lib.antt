@@ -1,0 +1,17 @@
+pub mod Answers
+pub mod Asks
+pub mod Commands
+pub mod Config
+pub mod Delivery
+pub mod Drafts
+pub mod Establishment
+pub mod Kept
+pub mod Modification
+pub mod Outcome
+pub mod Release
+pub mod Sameness
+pub mod Spelling
+pub mod State
+pub mod Step
+pub mod Timers
+pub mod Work

@@ -1,0 +1,63 @@
+-- Timers that expire (TS 24.501 clauses 6.3.2.5 and 6.3.3.5).
+use Rattle.std.specs.Prelude.{ℕ, ◌+◌, Bool, nat_lt}
+use Rattle.nas_base.specs.Branches.{per, when◌then◌else◌}
+use Rattle.nas_timers.specs.declared.timer_id.TimerId.{TimerId}
+use Rattle.nas_timers.specs.declared.timer_id.TimerId.TheVariants.{T3510, T3516, T3517, T3521, T3522, T3550, T3555, T3560, T3580, T3581, T3582, T3591, T3592}
+use Rattle.smf_core.specs.Release.{releasing, removed}
+use Rattle.smf_core.specs.Work.{Working, held, hold, say_frame, start}
+use Rattle.smf_core.specs.declared.held.Command.{Command}
+use Rattle.smf_core.specs.declared.held.Held.{Held}
+use Rattle.smf_core.specs.declared.held.Modification.{Modification}
+use Rattle.smf_core.specs.declared.held.Phase.{Phase}
+use Rattle.smf_core.specs.declared.held.Phase.TheVariants.{Active, Modifying, Settling, Releasing}
+
+-- A command is sent five times at most.
+abbrev pub is_left : ℕ → Bool
+is_left sendings = nat_lt sendings 5
+
+-- the same command again
+abbrev pub again : Command → Command
+again c = record c { sendings = c.sendings + 1 }
+
+abbrev pub resent : Command → ℕ → Working → Working
+resent c psi w = start c.timer (say_frame psi c.message w)
+
+-- T3591: the same command again, four times; at its fifth expiry the session is released
+abbrev pub modification_expired : Modification → ℕ → Held → Working → Working
+modification_expired m psi h w =
+    when is_left m.command.sendings
+    then resent m.command psi (hold psi (record h { phase = Modifying (record m { command = again m.command }) }) w)
+    else releasing psi 0 h w
+
+-- T3592: the same command again, four times; at its fifth expiry the session is removed
+abbrev pub release_expired : Command → ℕ → Held → Working → Working
+release_expired c psi h w =
+    when is_left c.sendings then resent c psi (hold psi (record h { phase = Releasing (again c) }) w) else removed psi w
+
+-- A timer whose command is no longer open finds no owner.
+abbrev pub of_modifying : Phase → ℕ → Held → Working → Working
+of_modifying (Modifying m) psi h w = modification_expired m psi h w
+of_modifying (Active last) psi h w = w
+of_modifying (Settling last) psi h w = w
+of_modifying (Releasing command) psi h w = w
+
+abbrev pub of_releasing : Phase → ℕ → Held → Working → Working
+of_releasing (Releasing command) psi h w = release_expired command psi h w
+of_releasing (Active last) psi h w = w
+of_releasing (Modifying m) psi h w = w
+of_releasing (Settling last) psi h w = w
+
+unfoldable pub expired : TimerId → Working → Working
+expired (T3591 psi) w = per (held psi w) w (λ (h : Held). of_modifying h.phase psi h w)
+expired (T3592 psi) w = per (held psi w) w (λ (h : Held). of_releasing h.phase psi h w)
+expired T3510 w = w
+expired T3516 w = w
+expired T3517 w = w
+expired T3521 w = w
+expired T3522 w = w
+expired T3550 w = w
+expired T3555 w = w
+expired T3560 w = w
+expired (T3580 psi) w = w
+expired (T3581 psi) w = w
+expired (T3582 psi) w = w
