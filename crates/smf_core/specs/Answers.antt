@@ -1,7 +1,9 @@
 -- The handset's answers to commands (TS 24.501 clauses 6.3.2.3, 6.3.2.4 and 6.3.3.3), and its 5GSM STATUS (clause 7.3).
-use Rattle.std.specs.Prelude.{ℕ, ◌==◌, Some}
+use Rattle.std.specs.Prelude.{ℕ, ◌==◌, Bool, false, List, Option, Some, None}
 use Rattle.nas_base.specs.Branches.{per, when◌then◌else◌}
 use Rattle.nas_base.specs.declared.sm_cause.TheConstants as cause
+use Rattle.nas_elements.specs.declared.ambr.Ambr.{Ambr}
+use Rattle.nas_qos.specs.Rules.{QosRule}
 use Rattle.sm_messages.specs.Session.{SessionValues}
 use Rattle.smf_core.specs.Release.{removed}
 use Rattle.smf_core.specs.Work.{Working, fence, held, hold, stop}
@@ -12,56 +14,60 @@ use Rattle.smf_core.specs.declared.held.Modification.{Modification}
 use Rattle.smf_core.specs.declared.held.Phase.{Phase}
 use Rattle.smf_core.specs.declared.held.Phase.TheVariants.{Active, Modifying, Settling, Releasing}
 
--- an answer to the MODIFICATION COMMAND that is open, by its transaction; any other is ignored
-abbrev pub in_modifying : Phase → ℕ → (Modification → Working → Working) → Working → Working
-in_modifying (Modifying m) pti row w = when m.command.message.pti == pti then row m w else w
-in_modifying (Active last) pti row w = w
-in_modifying (Settling last) pti row w = w
-in_modifying (Releasing command) pti row w = w
+-- The session and the modification whose command is open, where the transaction is that of the command. Any other answer is ignored.
+abbrev pub modification_in : Phase → ℕ → SessionValues → Option (SessionValues × Modification)
+modification_in (Modifying m) pti session = when m.command.message.pti == pti then Some (session, m) else None
+modification_in (Active last) pti session = None
+modification_in (Settling last) pti session = None
+modification_in (Releasing command) pti session = None
 
-abbrev pub of_modification : ℕ → ℕ → (Held → Modification → Working → Working) → Working → Working
-of_modification psi pti row w = per (held psi w) w (λ (h : Held). in_modifying h.phase pti (row h) w)
+unfoldable pub modification_of : ℕ → ℕ → Working → Option (SessionValues × Modification)
+modification_of psi pti w = per (held psi w) None (λ (h : Held). modification_in h.phase pti h.session)
 
 -- A session whose command was given out once is Active again. Of a command that was given out more often, copies and copies of their
 -- answers may still be under way: the session is Settling until another context is in use, which the AMF is to bring about.
 abbrev pub last_of : Command → LastCommand
 last_of c = record { message = c.message; sendings = c.sendings }
 
-unfoldable pub settled : SessionValues → Modification → ℕ → Working → Working
-settled session m psi w =
-    when m.command.sendings == 1
-    then hold psi (record { session = session; phase = Active (Some (last_of m.command)) }) (stop m.command.timer w)
-    else fence (hold psi (record { session = session; phase = Settling (last_of m.command) }) (stop m.command.timer w))
+unfoldable pub settled : SessionValues → Command → ℕ → Working → Working
+settled session c psi w =
+    when c.sendings == 1
+    then hold psi (record { session = session; phase = Active (Some (last_of c)) }) (stop c.timer w)
+    else fence (hold psi (record { session = session; phase = Settling (last_of c) }) (stop c.timer w))
 
 -- PDU SESSION MODIFICATION COMPLETE: the session is what the command makes of it
-abbrev pub session_after : Modification → SessionValues → SessionValues
-session_after m session = record session { rules = m.rules; ambr = m.ambr }
+abbrev pub session_after : List QosRule → Ambr → SessionValues → SessionValues
+session_after rules ambr session = record session { rules = rules; ambr = ambr }
 
 unfoldable pub modification_completed : ℕ → ℕ → Working → Working
 modification_completed psi pti w =
-    of_modification psi pti (λ (h : Held) (m : Modification). settled (session_after m h.session) m psi) w
+    per (modification_of psi pti w) w (λ (o : SessionValues × Modification). settled (session_after o.1.rules o.1.ambr o.0) o.1.command psi w)
 
 -- The session stays what it was.
-abbrev pub modification_refused : ℕ → ℕ → Working → Working
-modification_refused psi pti w = of_modification psi pti (λ (h : Held) (m : Modification). settled h.session m psi) w
+unfoldable pub modification_refused : ℕ → ℕ → Working → Working
+modification_refused psi pti w = per (modification_of psi pti w) w (λ (o : SessionValues × Modification). settled o.0 o.1.command psi w)
 
 -- PDU SESSION MODIFICATION COMMAND REJECT: a handset that has no such session says so, and then there is none
-abbrev pub command_rejected_of : ℕ → ℕ → Held → Modification → Working → Working
-command_rejected_of n psi h m w =
-    when n == cause.INVALID_PDU_SESSION_IDENTITY then removed psi w else settled h.session m psi w
+abbrev pub command_rejected_of : ℕ → ℕ → SessionValues → Modification → Working → Working
+command_rejected_of n psi session m w =
+    when n == cause.INVALID_PDU_SESSION_IDENTITY then removed psi w else settled session m.command psi w
 
 unfoldable pub command_rejected : ℕ → ℕ → ℕ → Working → Working
-command_rejected n psi pti w = of_modification psi pti (command_rejected_of n psi) w
+command_rejected n psi pti w =
+    per (modification_of psi pti w) w (λ (o : SessionValues × Modification). command_rejected_of n psi o.0 o.1 w)
 
--- PDU SESSION RELEASE COMPLETE
-abbrev pub in_releasing : Phase → ℕ → ℕ → Working → Working
-in_releasing (Releasing command) psi pti w = when command.message.pti == pti then removed psi w else w
-in_releasing (Active last) psi pti w = w
-in_releasing (Modifying m) psi pti w = w
-in_releasing (Settling last) psi pti w = w
+-- PDU SESSION RELEASE COMPLETE, where the transaction is that of the command
+abbrev pub is_release_of : Phase → ℕ → Bool
+is_release_of (Releasing command) pti = command.message.pti == pti
+is_release_of (Active last) pti = false
+is_release_of (Modifying m) pti = false
+is_release_of (Settling last) pti = false
+
+abbrev pub is_releasing : ℕ → ℕ → Working → Bool
+is_releasing psi pti w = per (held psi w) false (λ (h : Held). is_release_of h.phase pti)
 
 unfoldable pub release_completed : ℕ → ℕ → Working → Working
-release_completed psi pti w = per (held psi w) w (λ (h : Held). in_releasing h.phase psi pti w)
+release_completed psi pti w = when is_releasing psi pti w then removed psi w else w
 
 -- 5GSM STATUS: cause 43 says that the handset has no such session, whatever its state here and whatever the transaction; cause 47 that
 -- it has no such transaction; others are ignored

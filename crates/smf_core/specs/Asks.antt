@@ -2,6 +2,7 @@
 use Rattle.std.specs.Prelude.{ℕ, zero, suc, ◌+◌, Bool, List, Some, None}
 use Rattle.nas_base.specs.Branches.{per, when◌then◌else◌}
 use Rattle.nas_elements.specs.Status.{has}
+use Rattle.sm_messages.specs.Session.{SessionValues}
 use Rattle.smf_core.specs.Release.{removed}
 use Rattle.smf_core.specs.Work.{Working, cell, held, hold, put}
 use Rattle.smf_core.specs.declared.cell.Answer.{Answer}
@@ -22,14 +23,14 @@ each row w = each_from 15 1 row w
 abbrev pub forgotten : ℕ → Working → Working
 forgotten psi w = per (cell psi w).answer w (λ (a : Answer). put psi (record (cell psi w) { answer = None }) w)
 
-abbrev pub unsettled_in : Phase → ℕ → Held → Working → Working
-unsettled_in (Settling last) psi h w = hold psi (record h { phase = Active (Some last) }) w
-unsettled_in (Active last) psi h w = w
-unsettled_in (Modifying m) psi h w = w
-unsettled_in (Releasing command) psi h w = w
+abbrev pub unsettled_in : Phase → ℕ → SessionValues → Working → Working
+unsettled_in (Settling last) psi session w = hold psi (record { session = session; phase = Active (Some last) }) w
+unsettled_in (Active last) psi session w = w
+unsettled_in (Modifying m) psi session w = w
+unsettled_in (Releasing command) psi session w = w
 
 abbrev pub unsettled : ℕ → Working → Working
-unsettled psi w = per (held psi w) w (λ (h : Held). unsettled_in h.phase psi h w)
+unsettled psi w = per (held psi w) w (λ (h : Held). unsettled_in h.phase psi h.session w)
 
 unfoldable pub switched_at : ℕ → Working → Working
 switched_at psi w = unsettled psi (forgotten psi w)

@@ -1,5 +1,5 @@
 -- The commands to modify and to release a session, which the network begins itself (TS 24.501 clauses 6.3.2.2 and 6.3.3.2).
-use Rattle.std.specs.Prelude.{ℕ, List, Option, Result, Ok, Err}
+use Rattle.std.specs.Prelude.{ℕ, List, Option, Some, None, Result, Ok, Err}
 use Rattle.nas_base.specs.Branches.{per, when◌then◌else◌}
 use Rattle.nas_base.specs.declared.state_words.SmfWord.TheVariants as words
 use Rattle.nas_elements.specs.declared.ambr.Ambr.{Ambr}
@@ -7,6 +7,7 @@ use Rattle.nas_qos.specs.Applying.{all_applied}
 use Rattle.nas_qos.specs.Operations.{Operation}
 use Rattle.nas_qos.specs.Rules.{QosRule}
 use Rattle.nas_qos.specs.declared.refusals.QosFault.{QosFault}
+use Rattle.sm_messages.specs.Session.{SessionValues}
 use Rattle.smf_core.specs.Modification.{changes_nothing, modification, modifying}
 use Rattle.smf_core.specs.Release.{releasing}
 use Rattle.smf_core.specs.Work.{Working, held}
@@ -19,30 +20,30 @@ use Rattle.smf_core.specs.declared.inputs.SmfRefusal.{SmfRefusal}
 use Rattle.smf_core.specs.declared.inputs.SmfRefusal.TheVariants as refusals
 
 -- In Active a session is modified by operations that go with its rules, where they change something.
-abbrev pub modified : Modification → Option LastCommand → ℕ → Held → Working → Result Working SmfRefusal
-modified m last psi h w = when changes_nothing m last h.session then Err refusals.NoChange else Ok (modifying m psi h w)
+abbrev pub modified : Modification → Option LastCommand → ℕ → SessionValues → Working → Result Working SmfRefusal
+modified m last psi session w = when changes_nothing m last session then Err refusals.NoChange else Ok (modifying m psi session w)
 
-abbrev pub modified_with : Result (List QosRule) QosFault → List Operation → Option Ambr → Option LastCommand → ℕ → Held → Working → Result Working SmfRefusal
-modified_with (Ok rules) ops ambr last psi h w = modified (modification psi 0 ambr ops rules h.session) last psi h w
-modified_with (Err fault) ops ambr last psi h w = Err (refusals.Qos fault)
+abbrev pub modified_with : Result (List QosRule) QosFault → List Operation → Option Ambr → Option LastCommand → ℕ → SessionValues → Working → Result Working SmfRefusal
+modified_with (Ok rules) ops ambr last psi session w = modified (modification psi 0 ambr ops rules session) last psi session w
+modified_with (Err fault) ops ambr last psi session w = Err (refusals.Qos fault)
 
 -- While a command is open it is busy. In Settling it takes no modification.
-abbrev pub modify_in : Phase → List Operation → Option Ambr → ℕ → Held → Working → Result Working SmfRefusal
-modify_in (Active last) ops ambr psi h w = modified_with (all_applied ops h.session.rules) ops ambr last psi h w
-modify_in (Modifying m) ops ambr psi h w = Err (refusals.WrongState words.Modifying)
-modify_in (Settling last) ops ambr psi h w = Err (refusals.Settling last.sendings)
-modify_in (Releasing command) ops ambr psi h w = Err (refusals.WrongState words.Releasing)
+abbrev pub modify_in : Phase → List Operation → Option Ambr → ℕ → SessionValues → Working → Result Working SmfRefusal
+modify_in (Active last) ops ambr psi session w = modified_with (all_applied ops session.rules) ops ambr last psi session w
+modify_in (Modifying m) ops ambr psi session w = Err (refusals.WrongState words.Modifying)
+modify_in (Settling last) ops ambr psi session w = Err (refusals.Settling last.sendings)
+modify_in (Releasing command) ops ambr psi session w = Err (refusals.WrongState words.Releasing)
 
 unfoldable pub modify : ℕ → List Operation → Option Ambr → Working → Result Working SmfRefusal
 modify psi ops ambr w =
-    per (held psi w) (Err (refusals.NoSuchSession psi)) (λ (h : Held). modify_in h.phase ops ambr psi h w)
+    per (held psi w) (Err (refusals.NoSuchSession psi)) (λ (h : Held). modify_in h.phase ops ambr psi h.session w)
 
 -- A session is released in every state in which it isn't being released.
-abbrev pub release_in : Phase → ℕ → Held → Working → Result Working SmfRefusal
-release_in (Active last) psi h w = Ok (releasing psi 0 h w)
-release_in (Modifying m) psi h w = Ok (releasing psi 0 h w)
-release_in (Settling last) psi h w = Ok (releasing psi 0 h w)
-release_in (Releasing command) psi h w = Err (refusals.WrongState words.Releasing)
+abbrev pub release_in : Phase → ℕ → SessionValues → Working → Result Working SmfRefusal
+release_in (Active last) psi session w = Ok (releasing psi 0 None session w)
+release_in (Modifying m) psi session w = Ok (releasing psi 0 (Some m.command.timer) session w)
+release_in (Settling last) psi session w = Ok (releasing psi 0 None session w)
+release_in (Releasing command) psi session w = Err (refusals.WrongState words.Releasing)
 
 unfoldable pub release : ℕ → Working → Result Working SmfRefusal
-release psi w = per (held psi w) (Err (refusals.NoSuchSession psi)) (λ (h : Held). release_in h.phase psi h w)
+release psi w = per (held psi w) (Err (refusals.NoSuchSession psi)) (λ (h : Held). release_in h.phase psi h.session w)

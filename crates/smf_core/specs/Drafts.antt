@@ -1,9 +1,13 @@
 -- A step while it goes on beside what was kept before it, and what it changes of that.
-use Rattle.std.specs.Prelude.{ℕ, List, [], ◌∷◌, Option, Some, None}
-use Rattle.nas_pools.specs.Pools.{PoolsParts}
-use Rattle.smf_core.specs.State.{SmfState, put_cell}
-use Rattle.smf_core.specs.Work.{Working}
+use Rattle.std.specs.Prelude.{◌≡◌, ℕ, ◌==◌, List, [], ◌∷◌, length, Option, Some, None, if◌then◌else◌}
+use Rattle.nas_elements.specs.declared.address.Address.{Address}
+use Rattle.nas_pools.specs.Pools.{PoolsParts, take_of}
+use Rattle.smf_core.specs.State.{SmfState, put_cell, subscriber_in}
+use Rattle.smf_core.specs.Work.{Working, with_pools}
+use Rattle.smf_core.specs.declared.cell.Cell.{Cell}
 use Rattle.smf_core.specs.declared.draft.ChangedCell.{ChangedCell}
+use Rattle.smf_core.specs.declared.outs.SmfOut.{SmfOut}
+use Rattle.smf_core.specs.declared.subscriber.Subscriber.{Subscriber}
 
 -- what all rows speak of, and what was kept before the step
 pub record Drafted : Type 0 where
@@ -19,9 +23,9 @@ abbrev pub with_cells : List ℕ → List ChangedCell → SmfState → SmfState
 with_cells supi [] smf = smf
 with_cells supi (c ∷ cs) smf = with_cells supi cs (put_cell supi c.psi c.cell smf)
 
-abbrev pub with_pools : Option PoolsParts → SmfState → SmfState
-with_pools None smf = smf
-with_pools (Some pools) smf = record smf { pools = pools }
+abbrev pub with_changed : Option PoolsParts → SmfState → SmfState
+with_changed None smf = smf
+with_changed (Some pools) smf = record smf { pools = pools }
 
 -- the changes of one subscriber's cells and of the pools
 pub record Changed : Type 0 where
@@ -31,4 +35,25 @@ pub record Changed : Type 0 where
 
 -- what is kept with the changes
 unfoldable pub changed : Changed → SmfState → SmfState
-changed c smf = with_pools c.pools (with_cells c.supi c.cells smf)
+changed c smf = with_changed c.pools (with_cells c.supi c.cells smf)
+
+-- what a step changes, and what goes out
+pub record DoneParts : Type 0 where
+  pub changes : Changed
+  pub outs : List SmfOut
+
+-- the cell of an identity after these changes
+abbrev pub newest : ℕ → List ChangedCell → Cell → Cell
+newest psi [] kept = kept
+newest psi (c ∷ cs) kept = newest psi cs (if c.psi == psi then c.cell else kept)
+
+-- an address was taken, or none is free
+abbrev pub Takes : ℕ → Option Address → Drafted → Drafted → Type 0
+Takes kind None old new = (take_of kind old.work.smf.pools ≡ None) × (new ≡ old)
+Takes kind (Some address) old new =
+    (take_of kind old.work.smf.pools ≡ Some (address, new.work.smf.pools)) × (new ≡ by (with_pools new.work.smf.pools) old)
+
+-- a SUPI's record, which has a cell for each identity, among those that were kept before a step
+pub record IsKept (supi : List ℕ) (s : Subscriber) (before : SmfState) : Type 0 where
+  pub found : subscriber_in supi before.subscribers ≡ Some s
+  pub whole : length s.cells ≡ 15

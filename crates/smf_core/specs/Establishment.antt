@@ -7,6 +7,7 @@ use Rattle.nas_base.specs.declared.sm_cause.TheConstants as cause
 use Rattle.nas_elements.specs.Dnns.{is_same_dnn}
 use Rattle.nas_elements.specs.declared.address.Address.{Address}
 use Rattle.nas_elements.specs.declared.address.Address.TheVariants.{V4, V6, V4V6}
+use Rattle.nas_elements.specs.declared.ambr.Ambr.{Ambr}
 use Rattle.nas_elements.specs.declared.slice.Slice.{Slice}
 use Rattle.nas_pools.specs.Kinds.{kinds_of}
 use Rattle.nas_pools.specs.Pools.{PoolsParts, has_v6, take_of}
@@ -20,7 +21,7 @@ use Rattle.sm_messages.specs.declared.message.Sm.TheVariants as sm
 use Rattle.smf_core.specs.Kept.{is_accept}
 use Rattle.smf_core.specs.Release.{is_no_transaction, removed}
 use Rattle.smf_core.specs.State.{dnns_of, slices_of}
-use Rattle.smf_core.specs.Work.{Working, cell, frame, held, put, say, say_frame}
+use Rattle.smf_core.specs.Work.{Working, cell, frame, held, put, say, say_frame, with_pools}
 use Rattle.smf_core.specs.declared.cell.Answer.{Answer}
 use Rattle.smf_core.specs.declared.establishment.Asked.{Asked}
 use Rattle.smf_core.specs.declared.establishment.Asking.{Asking}
@@ -108,22 +109,22 @@ abbrev pub refused : Asking → ℕ → Working → Working
 refused a n w = answered a None (sm.PduSessionEstablishmentReject (record { cause = n })) w
 
 -- PDU SESSION ESTABLISHMENT ACCEPT (clause 6.4.1.3), and the session that it tells of
-abbrev pub new_session : Asked → Address → Working → SessionValues
-new_session asked address w = record {
+abbrev pub new_session : Asked → Address → Ambr → SessionValues
+new_session asked address ambr = record {
   kind = kind_of_address address;
   address = Some address;
   dnn = Some asked.dnn;
   slice = Some asked.slice;
-  ambr = w.smf.config.ambr;
+  ambr = ambr;
   rules = default_rules;
 }
 
-abbrev pub accept : Asked → Address → Working → Sm
-accept asked address w = sm.PduSessionEstablishmentAccept (record {
+abbrev pub accept : Asked → Address → Ambr → Sm
+accept asked address ambr = sm.PduSessionEstablishmentAccept (record {
   session_type = kind_of_address address;
   ssc_mode = ssc_mode_1;
   rules = default_rules_octets;
-  ambr = w.smf.config.ambr;
+  ambr = ambr;
   cause = narrowed asked.kind asked.kinds;
   address = Some address;
   slice = Some asked.slice;
@@ -133,12 +134,9 @@ accept asked address w = sm.PduSessionEstablishmentAccept (record {
 
 unfoldable pub accepted : Asking → Asked → Address → Working → Working
 accepted a asked address w =
-    answered a (Some (record { session = new_session asked address w; phase = Active None })) (accept asked address w) w
+    answered a (Some (record { session = new_session asked address w.smf.config.ambr; phase = Active None })) (accept asked address w.smf.config.ambr) w
 
 -- the least free address of the kind
-abbrev pub with_pools : PoolsParts → Working → Working
-with_pools pools w = record w { smf = record w.smf { pools = pools } }
-
 abbrev pub accepted_with : Asking → Asked → (Address × PoolsParts) → Working → Working
 accepted_with a asked taking w = accepted a asked taking.0 (with_pools taking.1 w)
 

@@ -6,7 +6,6 @@ use Rattle.nas_timers.specs.declared.timer_id.TimerId.{TimerId}
 use Rattle.sm_messages.specs.Session.{SessionValues}
 use Rattle.sm_messages.specs.declared.message.Sm.{Sm}
 use Rattle.sm_messages.specs.declared.message.Sm.TheVariants as sm
-use Rattle.smf_core.specs.declared.held.Command.{Command}
 use Rattle.smf_core.specs.declared.held.Held.{Held}
 use Rattle.smf_core.specs.declared.held.LastCommand.{LastCommand}
 use Rattle.smf_core.specs.declared.held.Phase.{Phase}
@@ -19,12 +18,12 @@ word_of (Modifying m) = words.Modifying
 word_of (Settling last) = words.Settling
 word_of (Releasing command) = words.Releasing
 
--- the command that is open: MODIFICATION COMMAND or RELEASE COMMAND
-abbrev pub command_of : Phase → Option Command
-command_of (Active last) = None
-command_of (Modifying m) = Some m.command
-command_of (Settling last) = None
-command_of (Releasing command) = Some command
+-- the timer of the command that is open, MODIFICATION COMMAND or RELEASE COMMAND
+abbrev pub timer_of : Phase → Option TimerId
+timer_of (Active last) = None
+timer_of (Modifying m) = Some m.command.timer
+timer_of (Settling last) = None
+timer_of (Releasing command) = Some command.timer
 
 -- how often its last command was given out, 0 where it has had none
 abbrev pub given_out : Option LastCommand → ℕ

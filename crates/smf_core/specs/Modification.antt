@@ -45,9 +45,9 @@ abbrev pub changes_nothing : Modification → Option LastCommand → SessionValu
 changes_nothing m last session = is_unchanged session m.rules m.ambr || is_last m.command.message last
 
 -- the command is given out
-unfoldable pub modifying : Modification → ℕ → Held → Working → Working
-modifying m psi h w =
-    start m.command.timer (say_frame psi m.command.message (hold psi (record h { phase = Modifying m }) w))
+unfoldable pub modifying : Modification → ℕ → SessionValues → Working → Working
+modifying m psi session w =
+    start m.command.timer (say_frame psi m.command.message (hold psi (record { session = session; phase = Modifying m }) w))
 
 -- PDU SESSION MODIFICATION REJECT (clause 6.4.2.4)
 abbrev pub modification_rejected : ℕ → ℕ → ℕ → Working → Working
@@ -55,34 +55,35 @@ modification_rejected psi pti n w = say psi pti (sm.PduSessionModificationReject
 
 -- PDU SESSION MODIFICATION REQUEST in Active: octets that are no list of operations are a syntactical error; no operations at all,
 -- operations that don't go with the session's rules, and those that aren't issued, are a semantic one
-abbrev pub modification_asked : Modification → Option LastCommand → ℕ → ℕ → Held → Working → Working
-modification_asked m last psi pti h w =
-    when changes_nothing m last h.session
+abbrev pub modification_asked : Modification → Option LastCommand → ℕ → ℕ → SessionValues → Working → Working
+modification_asked m last psi pti session w =
+    when changes_nothing m last session
     then modification_rejected psi pti cause.SEMANTIC_ERROR_IN_THE_QOS_OPERATION w
-    else modifying m psi h w
+    else modifying m psi session w
 
-abbrev pub asked_with : Result (List QosRule) QosFault → List Operation → Option LastCommand → ℕ → ℕ → Held → Working → Working
-asked_with (Ok rules) ops last psi pti h w = modification_asked (modification psi pti None ops rules h.session) last psi pti h w
-asked_with (Err fault) ops last psi pti h w = modification_rejected psi pti cause.SEMANTIC_ERROR_IN_THE_QOS_OPERATION w
+abbrev pub asked_with : Result (List QosRule) QosFault → List Operation → Option LastCommand → ℕ → ℕ → SessionValues → Working → Working
+asked_with (Ok rules) ops last psi pti session w =
+    modification_asked (modification psi pti None ops rules session) last psi pti session w
+asked_with (Err fault) ops last psi pti session w = modification_rejected psi pti cause.SEMANTIC_ERROR_IN_THE_QOS_OPERATION w
 
-abbrev pub asked_by : Result (List Operation) ℕ → Option LastCommand → ℕ → ℕ → Held → Working → Working
-asked_by (Ok ops) last psi pti h w = asked_with (all_applied ops h.session.rules) ops last psi pti h w
-asked_by (Err at) last psi pti h w = modification_rejected psi pti cause.SYNTACTICAL_ERROR_IN_THE_QOS_OPERATION w
+abbrev pub asked_by : Result (List Operation) ℕ → Option LastCommand → ℕ → ℕ → SessionValues → Working → Working
+asked_by (Ok ops) last psi pti session w = asked_with (all_applied ops session.rules) ops last psi pti session w
+asked_by (Err at) last psi pti session w = modification_rejected psi pti cause.SYNTACTICAL_ERROR_IN_THE_QOS_OPERATION w
 
-unfoldable pub requested_in_active : Option (List ℕ) → Option LastCommand → ℕ → ℕ → Held → Working → Working
-requested_in_active rules last psi pti h w =
+unfoldable pub requested_in_active : Option (List ℕ) → Option LastCommand → ℕ → ℕ → SessionValues → Working → Working
+requested_in_active rules last psi pti session w =
     per rules (modification_rejected psi pti cause.SEMANTIC_ERROR_IN_THE_QOS_OPERATION w)
-      (λ (octets : List ℕ). asked_by (ops_in octets) last psi pti h w)
+      (λ (octets : List ℕ). asked_by (ops_in octets) last psi pti session w)
 
 -- In Modifying and Releasing it is ignored: the network's command goes on (clause 6.4.2.6). A session in Settling takes no modification.
-abbrev pub modification_requested_in : Phase → Option (List ℕ) → ℕ → ℕ → Held → Working → Working
-modification_requested_in (Active last) rules psi pti h w = requested_in_active rules last psi pti h w
-modification_requested_in (Modifying m) rules psi pti h w = w
-modification_requested_in (Settling last) rules psi pti h w = modification_rejected psi pti cause.INSUFFICIENT_RESOURCES w
-modification_requested_in (Releasing command) rules psi pti h w = w
+abbrev pub modification_requested_in : Phase → Option (List ℕ) → ℕ → ℕ → SessionValues → Working → Working
+modification_requested_in (Active last) rules psi pti session w = requested_in_active rules last psi pti session w
+modification_requested_in (Modifying m) rules psi pti session w = w
+modification_requested_in (Settling last) rules psi pti session w = modification_rejected psi pti cause.INSUFFICIENT_RESOURCES w
+modification_requested_in (Releasing command) rules psi pti session w = w
 
 unfoldable pub modification_requested : Option (List ℕ) → ℕ → ℕ → Working → Working
 modification_requested rules psi pti w =
     when is_no_transaction pti then w
     else per (held psi w) (modification_rejected psi pti cause.INVALID_PDU_SESSION_IDENTITY w)
-      (λ (h : Held). modification_requested_in h.phase rules psi pti h w)
+      (λ (h : Held). modification_requested_in h.phase rules psi pti h.session w)

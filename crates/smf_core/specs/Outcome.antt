@@ -1,5 +1,6 @@
 -- What working on a step comes to.
 use Rattle.std.specs.Prelude.{◌≡◌, Result, Ok, Err}
+use Rattle.nas_base.specs.declared.memory.Memory.{Memory}
 use Rattle.smf_core.specs.Drafts.{Drafted}
 use Rattle.smf_core.specs.Work.{Working}
 use Rattle.smf_core.specs.declared.inputs.SmfRefusal.{SmfRefusal}
@@ -14,3 +15,8 @@ Works old new (Err (refusals.WrongState word)) row = row ≡ Err (refusals.Wrong
 Works old new (Err (refusals.Settling sent)) row = row ≡ Err (refusals.Settling sent)
 Works old new (Err (refusals.Qos fault)) row = row ≡ Err (refusals.Qos fault)
 Works old new (Err refusals.NoChange) row = row ≡ Err refusals.NoChange
+
+-- where memory alone can be wanting
+abbrev pub unrefused : Result Unit Memory → Result Unit SmfRefusal
+unrefused (Ok done) = Ok done
+unrefused (Err wanting) = Err refusals.Memory

@@ -1,6 +1,6 @@
 -- What an SMF keeps between two events: what was configured, the addresses, and of each subscriber what is subscribed and a cell for
 -- each PDU session identity. A session and a kept answer are found, and changed, through `cell_of` and `put_cell` alone.
-use Rattle.std.specs.Prelude.{ℕ, zero, suc, ◌+◌, ◌-◌, Bool, List, [], ◌∷◌, map, Option, Some, None, option_map, is_some, slice_index_or, slice_set, if◌then◌else◌}
+use Rattle.std.specs.Prelude.{ℕ, zero, suc, ◌+◌, ◌-◌, Bool, List, [], ◌∷◌, map, replicate, Option, Some, None, option_map, is_some, slice_index_or, slice_set, if◌then◌else◌}
 use Rattle.std.specs.Str.{bytes_eq}
 use Rattle.nas_elements.specs.declared.slice.Slice.{Slice}
 use Rattle.nas_pools.specs.Pools.{PoolsParts, unused_pools}
@@ -20,13 +20,9 @@ pub record SmfState : Type 0 where
 abbrev pub vacant : Cell
 vacant = record { held = None; answer = None }
 
-abbrev pub copies_of : {A : Type 0} → ℕ → A → List A
-copies_of zero x = []
-copies_of (suc n) x = x ∷ copies_of n x
-
 -- a subscriber of whom nothing came yet
 abbrev pub unused : SmfSubscriber → Subscriber
-unused s = record { supi = s.supi; dnns = s.dnns; slices = s.slices; cells = copies_of 15 vacant }
+unused s = record { supi = s.supi; dnns = s.dnns; slices = s.slices; cells = replicate 15 vacant }
 
 -- before any event
 abbrev pub first : SmfBeginnings → SmfState
@@ -40,6 +36,9 @@ first b = record {
 abbrev pub subscriber_in : List ℕ → List Subscriber → Option Subscriber
 subscriber_in supi [] = None
 subscriber_in supi (s ∷ ss) = if bytes_eq s.supi supi then Some s else subscriber_in supi ss
+
+abbrev pub is_subscriber : List ℕ → SmfState → Bool
+is_subscriber supi smf = is_some (subscriber_in supi smf.subscribers)
 
 -- the cell of an identity, 1 to 15
 abbrev pub cell_at : ℕ → Option Subscriber → Cell

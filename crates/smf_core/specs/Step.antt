@@ -4,6 +4,7 @@ use Rattle.sm_messages.specs.Messages.{spelling}
 use Rattle.smf_core.specs.Asks.{all_released, kept_only, switched}
 use Rattle.smf_core.specs.Commands.{modify, release}
 use Rattle.smf_core.specs.Delivery.{delivered}
+use Rattle.smf_core.specs.Drafts.{DoneParts, changed}
 use Rattle.smf_core.specs.State.{SmfState}
 use Rattle.smf_core.specs.Timers.{expired}
 use Rattle.smf_core.specs.Work.{Working}
@@ -61,3 +62,13 @@ Steps old new (Err (refusals.WrongState word)) step = (new ≡ old) × (step ≡
 Steps old new (Err (refusals.Settling sent)) step = (new ≡ old) × (step ≡ Err (refusals.Settling sent))
 Steps old new (Err (refusals.Qos fault)) step = (new ≡ old) × (step ≡ Err (refusals.Qos fault))
 Steps old new (Err refusals.NoChange) step = (new ≡ old) × (step ≡ Err refusals.NoChange)
+
+-- the same for an SMF that its owner keeps, and changes that it takes over
+abbrev pub Follows : SmfState → Result DoneParts SmfRefusal → Result Stepped SmfRefusal → Type 0
+Follows smf (Ok done) step = step ≡ Ok (record { smf = changed done.changes smf; outs = done.outs })
+Follows smf (Err refusals.Memory) step = Unit {0}
+Follows smf (Err (refusals.NoSuchSession psi)) step = step ≡ Err (refusals.NoSuchSession psi)
+Follows smf (Err (refusals.WrongState word)) step = step ≡ Err (refusals.WrongState word)
+Follows smf (Err (refusals.Settling sent)) step = step ≡ Err (refusals.Settling sent)
+Follows smf (Err (refusals.Qos fault)) step = step ≡ Err (refusals.Qos fault)
+Follows smf (Err refusals.NoChange) step = step ≡ Err refusals.NoChange

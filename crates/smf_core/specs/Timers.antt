@@ -1,8 +1,9 @@
 -- Timers that expire (TS 24.501 clauses 6.3.2.5 and 6.3.3.5).
-use Rattle.std.specs.Prelude.{ℕ, ◌+◌, Bool, nat_lt}
+use Rattle.std.specs.Prelude.{ℕ, ◌+◌, Bool, nat_lt, Some}
 use Rattle.nas_base.specs.Branches.{per, when◌then◌else◌}
 use Rattle.nas_timers.specs.declared.timer_id.TimerId.{TimerId}
 use Rattle.nas_timers.specs.declared.timer_id.TimerId.TheVariants.{T3510, T3516, T3517, T3521, T3522, T3550, T3555, T3560, T3580, T3581, T3582, T3591, T3592}
+use Rattle.sm_messages.specs.Session.{SessionValues}
 use Rattle.smf_core.specs.Release.{releasing, removed}
 use Rattle.smf_core.specs.Work.{Working, held, hold, say_frame, start}
 use Rattle.smf_core.specs.declared.held.Command.{Command}
@@ -23,33 +24,35 @@ abbrev pub resent : Command → ℕ → Working → Working
 resent c psi w = start c.timer (say_frame psi c.message w)
 
 -- T3591: the same command again, four times; at its fifth expiry the session is released
-abbrev pub modification_expired : Modification → ℕ → Held → Working → Working
-modification_expired m psi h w =
+abbrev pub modification_expired : Modification → ℕ → SessionValues → Working → Working
+modification_expired m psi session w =
     when is_left m.command.sendings
-    then resent m.command psi (hold psi (record h { phase = Modifying (record m { command = again m.command }) }) w)
-    else releasing psi 0 h w
+    then resent m.command psi (hold psi (record { session = session; phase = Modifying (record m { command = again m.command }) }) w)
+    else releasing psi 0 (Some m.command.timer) session w
 
 -- T3592: the same command again, four times; at its fifth expiry the session is removed
-abbrev pub release_expired : Command → ℕ → Held → Working → Working
-release_expired c psi h w =
-    when is_left c.sendings then resent c psi (hold psi (record h { phase = Releasing (again c) }) w) else removed psi w
+abbrev pub release_expired : Command → ℕ → SessionValues → Working → Working
+release_expired c psi session w =
+    when is_left c.sendings
+    then resent c psi (hold psi (record { session = session; phase = Releasing (again c) }) w)
+    else removed psi w
 
 -- A timer whose command is no longer open finds no owner.
-abbrev pub of_modifying : Phase → ℕ → Held → Working → Working
-of_modifying (Modifying m) psi h w = modification_expired m psi h w
-of_modifying (Active last) psi h w = w
-of_modifying (Settling last) psi h w = w
-of_modifying (Releasing command) psi h w = w
+abbrev pub of_modifying : Phase → ℕ → SessionValues → Working → Working
+of_modifying (Modifying m) psi session w = modification_expired m psi session w
+of_modifying (Active last) psi session w = w
+of_modifying (Settling last) psi session w = w
+of_modifying (Releasing command) psi session w = w
 
-abbrev pub of_releasing : Phase → ℕ → Held → Working → Working
-of_releasing (Releasing command) psi h w = release_expired command psi h w
-of_releasing (Active last) psi h w = w
-of_releasing (Modifying m) psi h w = w
-of_releasing (Settling last) psi h w = w
+abbrev pub of_releasing : Phase → ℕ → SessionValues → Working → Working
+of_releasing (Releasing command) psi session w = release_expired command psi session w
+of_releasing (Active last) psi session w = w
+of_releasing (Modifying m) psi session w = w
+of_releasing (Settling last) psi session w = w
 
 unfoldable pub expired : TimerId → Working → Working
-expired (T3591 psi) w = per (held psi w) w (λ (h : Held). of_modifying h.phase psi h w)
-expired (T3592 psi) w = per (held psi w) w (λ (h : Held). of_releasing h.phase psi h w)
+expired (T3591 psi) w = per (held psi w) w (λ (h : Held). of_modifying h.phase psi h.session w)
+expired (T3592 psi) w = per (held psi w) w (λ (h : Held). of_releasing h.phase psi h.session w)
 expired T3510 w = w
 expired T3516 w = w
 expired T3517 w = w

@@ -2,20 +2,17 @@
 use Rattle.std.specs.Prelude.{ℕ, List, [], ◌∷◌, ◌++◌, Option, Some, None}
 use Rattle.nas_base.specs.Branches.{per}
 use Rattle.nas_elements.specs.declared.address.Address.{Address}
-use Rattle.nas_pools.specs.Pools.{freed}
+use Rattle.nas_pools.specs.Pools.{PoolsParts, freed}
 use Rattle.nas_timers.specs.Durations.{deadline_after, duration_of}
 use Rattle.nas_timers.specs.declared.timer_id.TimerId.{TimerId}
 use Rattle.sm_messages.specs.declared.message.Sm.{Sm}
 use Rattle.sm_messages.specs.declared.message.Sm.TheVariants as sm
 use Rattle.sm_messages.specs.declared.message.SmFrame.{SmFrame}
-use Rattle.smf_core.specs.Kept.{command_of}
 use Rattle.smf_core.specs.State.{SmfState, cell_of, put_cell}
 use Rattle.smf_core.specs.declared.acts.Act.{Act}
 use Rattle.smf_core.specs.declared.acts.Act.TheVariants.{Down, Fence, Start, Stop}
 use Rattle.smf_core.specs.declared.cell.Cell.{Cell}
-use Rattle.smf_core.specs.declared.held.Command.{Command}
 use Rattle.smf_core.specs.declared.held.Held.{Held}
-use Rattle.smf_core.specs.declared.held.Phase.{Phase}
 
 pub record Working : Type 0 where
   pub smf : SmfState
@@ -40,9 +37,15 @@ hold psi h w = put psi (record (cell psi w) { held = Some h }) w
 abbrev pub vacate : ℕ → Working → Working
 vacate psi w = put psi (record (cell psi w) { held = None }) w
 
--- an address is free again
+-- the addresses after one was taken, or given back
+abbrev pub with_pools : PoolsParts → Working → Working
+with_pools pools w = record w { smf = record w.smf { pools = pools } }
+
+abbrev pub give : Address → Working → Working
+give address w = with_pools (freed address w.smf.pools) w
+
 abbrev pub free : Option Address → Working → Working
-free address w = per address w (λ (a : Address). record w { smf = record w.smf { pools = freed a w.smf.pools } })
+free address w = per address w (λ (a : Address). give a w)
 
 -- something is said
 abbrev pub act : Act → Working → Working
@@ -74,6 +77,6 @@ start id w = act (Start id (deadline_after w.moment (duration_of id w.smf.config
 abbrev pub stop : TimerId → Working → Working
 stop id w = act (Stop id) w
 
--- the timer of the command that is open
-abbrev pub stop_timer : Phase → Working → Working
-stop_timer phase w = per (command_of phase) w (λ (c : Command). stop c.timer w)
+-- the timer of the command that is open, if there is one
+abbrev pub stop_timer : Option TimerId → Working → Working
+stop_timer timer w = per timer w (λ (id : TimerId). stop id w)

@@ -1,6 +1,6 @@
 //! What the SMF keeps of a PDU session.
-ghost use Rattle.std.specs.Prelude.{◌≡◌, option_map, IfOk};
-ghost use Rattle.smf_core.specs.Kept.{command_of, given_out, sent_of, word_of};
+ghost use Rattle.std.specs.Prelude.{◌≡◌, IfOk};
+ghost use Rattle.smf_core.specs.Kept.{given_out, sent_of, timer_of, word_of};
 
 use crate::kept_message::KeptMessage;
 use nas_base::{Memory, SmfWord};
@@ -128,14 +128,14 @@ impl Phase {
         }
     }
 
-    /// The command that is open.
-    pub fn command(&self) -> Option<&Command>
-        ensures { option_map (λ c. c.now) result ≡ command_of self.now }
+    /// The timer of the command that is open.
+    pub fn timer(&self) -> Option<TimerId>
+        ensures { result ≡ timer_of self.now }
     {
         match self {
             Phase::Active(_) | Phase::Settling(_) => None,
-            Phase::Modifying(modification) => Some(&modification.command),
-            Phase::Releasing(command) => Some(command),
+            Phase::Modifying(modification) => Some(modification.command.timer),
+            Phase::Releasing(command) => Some(command.timer),
         }
     }
 

@@ -1,13 +1,37 @@
-// A library with one function.
+//! The SMF: what it does at a 5GSM message of a handset, at a command, at a timer, and at what the AMF asks (TS 24.501 clauses 6 and 7).
+//! Time and octets are handed in; nothing here reads a clock.
 #![tactic(auto)]
 
-ghost use Rattle.std.specs.Prelude.{◌≡◌};
-ghost use Rattle.smf_core.specs.Echo.{echo_of};
+mod acts;
+mod answers;
+mod asks;
+mod cell;
+mod commands;
+mod config;
+mod delivery;
+mod draft;
+mod establishment;
+mod held;
+mod inputs;
+mod kept_message;
+mod modification;
+mod net_session;
+mod outs;
+mod release;
+mod smf;
+mod stepping;
+mod subscriber;
+mod timers;
+mod work;
 
-// The `ensures` clause is the contract: what `echo` returns is `echo_of` of its argument, a definition
-// in `specs/Echo.antt`, which a caller's clause can cite too.
-pub fn echo(x: usize) -> usize
-    ensures { result ≡ echo_of x }
-{
-    x
-}
+pub use crate::cell::{Answer, Cell};
+pub use crate::config::{Configured, SmfConfig, SmfSubscriber, SmfSubscribers};
+pub use crate::draft::Done;
+pub use crate::held::{Command, Held, LastCommand, Modification, Phase};
+pub use crate::inputs::{SmfInput, SmfRefusal};
+pub use crate::kept_message::KeptMessage;
+pub use crate::net_session::NetSession;
+pub use crate::outs::{SmfOut, SmfOuts};
+pub use crate::smf::Smf;
+pub use crate::stepping::{follow, step};
+pub use crate::subscriber::{Cells, Subscriber};

@@ -1,0 +1,277 @@
+//! How a step keeps what it changes until it is done, and the one place where its changes are taken over.
+//!
+//! What was kept before the step stays as it is, and beside it stand the cells that changed and, where an address was taken or given
+//! back, the pools as a copy. So want of memory leaves all as before, and a step copies the cells alone that it changes. The rows see
+//! nothing of this: what they change is seen as what is kept by now.
+ghost use Rattle.std.specs.Prelude.{◌≡◌, true, [], ◌∷◌, ◌++◌, map, IfOk, OnOk};
+ghost use Rattle.smf_core.specs.Drafts.{Drafted, DoneParts, Takes, by, changed, newest};
+ghost use Rattle.smf_core.specs.State.{dnns_of, is_subscriber, slices_of};
+ghost use Rattle.smf_core.specs.Step.{out_of, started};
+ghost use Rattle.smf_core.specs.Work.{act, cell, give, put};
+
+use crate::acts::{Act, Acts};
+use crate::cell::Cell;
+use crate::config::Configured;
+use crate::outs::{SmfOut, SmfOuts};
+use crate::smf::Smf;
+use crate::subscriber::Subscriber;
+use nas_base::{Memory, Moment, Psi, Supi};
+use nas_elements::{Address, Dnns, Nssai};
+use nas_pools::Pools;
+use std::alloc::Global;
+use std::marker::Model;
+
+/// A cell that changed, under its identity.
+#[derive(Drop)]
+pub struct ChangedCell {
+    pub psi: Psi,
+    pub cell: Cell,
+}
+
+/// A step of one subscriber while it goes on.
+#[derive(Drop)]
+pub struct Work<'a> {
+    alloc: Global,
+    before: &'a Smf,
+    supi: &'a Supi,
+    subscriber: &'a Subscriber,
+    moment: Moment,
+    cells: Vec<ChangedCell>,
+    pools: Option<Pools>,
+    acts: Acts,
+}
+
+impl<'a> Model for Work<'a> {
+    ghost use Rattle.smf_core.specs.Drafts.{Drafted, IsKept, changed};
+
+    ghost Value = { Drafted };
+
+    ghost view = { λ w. record { work = record { smf = changed (record { supi = w.supi.now; cells = w.cells.items; pools = w.pools }) w.before.now; supi = w.supi.now; moment = w.moment; acts = w.acts }; before = w.before.now } };
+
+    ghost invariant = { λ w. IsKept w.supi.now w.subscriber.now w.before.now };
+}
+
+/// What a step changes, and what goes out. It is taken over by the SMF that the step was followed from.
+#[derive(Drop)]
+pub struct Done {
+    supi: Supi,
+    cells: Vec<ChangedCell>,
+    pools: Option<Pools>,
+    outs: SmfOuts,
+}
+
+impl Model for Done {
+    ghost use Rattle.smf_core.specs.Drafts.{DoneParts};
+
+    ghost Value = { DoneParts };
+
+    ghost view = { λ d. record { changes = record { supi = d.supi; cells = d.cells.items; pools = d.pools }; outs = d.outs } };
+}
+
+// The cell of an identity after these changes.
+fn newest<'b>(psi: Psi, changed: &'b [ChangedCell], kept: &'b Cell) -> &'b Cell
+    ensures { result.now ≡ newest psi changed.now kept.now }
+{
+    match changed {
+        [] => kept,
+        [change, rest @ ..] if change.psi == psi => newest(psi, rest, &change.cell),
+        [_, rest @ ..] => newest(psi, rest, kept),
+    }
+}
+
+impl<'a> Work<'a> {
+    /// A step at its start.
+    pub fn new(alloc: Global, before: &'a Smf, now: Moment, supi: &'a Supi) -> Work<'a>
+        requires { is_subscriber supi.now before.now ≡ true }
+        ensures { result ≡ record { work = started before.now now supi.now; before = before.now } }
+    {
+        let subscriber = before.subscriber(supi).unwrap();
+        Work {
+            alloc,
+            before,
+            supi,
+            subscriber,
+            moment: now,
+            cells: Vec::new(alloc),
+            pools: None,
+            acts: Acts::new(alloc),
+        }
+    }
+
+    /// The allocator of what the step makes.
+    pub fn alloc(&self) -> Global {
+        self.alloc
+    }
+
+    /// The moment of the step.
+    pub fn moment(&self) -> Moment
+        ensures { result ≡ self.now.work.moment }
+    {
+        self.moment
+    }
+
+    /// What was configured.
+    pub fn config(&self) -> &Configured
+        ensures { result.now ≡ self.now.work.smf.config }
+    {
+        let before = self.before;
+        &before.config
+    }
+
+    /// The data networks that the subscriber has.
+    pub fn dnns(&self) -> &Dnns
+        ensures { result.now ≡ dnns_of self.now.work.supi self.now.work.smf }
+    {
+        let subscriber = self.subscriber;
+        &subscriber.dnns
+    }
+
+    /// The slices that the subscriber has.
+    pub fn slices(&self) -> &Nssai
+        ensures { result.now ≡ slices_of self.now.work.supi self.now.work.smf }
+    {
+        let subscriber = self.subscriber;
+        &subscriber.slices
+    }
+
+    /// The cell of an identity.
+    pub fn cell(&self, psi: Psi) -> &Cell
+        ensures { result.now ≡ cell psi self.now.work }
+    {
+        let subscriber = self.subscriber;
+        newest(psi, self.cells.as_slice(), subscriber.cells.at(psi))
+    }
+
+    /// Another cell takes its place.
+    pub fn put(&mut self, psi: Psi, cell: Cell) -> Result<(), Memory>
+        ensures { OnOk result (self.new ≡ by (put psi cell) self.old) }
+    {
+        match self.cells.push(ChangedCell { psi, cell }) {
+            Ok(()) => Ok(()),
+            Err(_) => Err(Memory),
+        }
+    }
+
+    // The addresses as they are by now.
+    fn copied_pools(&self) -> Result<Pools, Memory>
+        ensures { IfOk result (λ pools. pools ≡ self.now.work.smf.pools) }
+    {
+        match &self.pools {
+            Some(pools) => pools.copy(self.alloc),
+            None => {
+                let before = self.before;
+                before.pools.copy(self.alloc)
+            }
+        }
+    }
+
+    /// Whether there are interface identifiers of IPv6.
+    pub fn has_v6(&self) -> bool
+        ensures { result ≡ has_v6 self.now.work.smf.pools }
+    {
+        match &self.pools {
+            Some(pools) => pools.has_v6(),
+            None => {
+                let before = self.before;
+                before.pools.has_v6()
+            }
+        }
+    }
+
+    /// Takes the least free address, where there is one: of IPv4 (1), of IPv6 (2), or one of each.
+    pub fn take(&mut self, kind: u8) -> Result<Option<Address>, Memory>
+        ensures { IfOk result (λ address. Takes kind address self.old self.new) }
+    {
+        let mut pools = self.copied_pools()?;
+        let taken = match kind {
+            1 => pools.take(1),
+            2 => pools.take(2),
+            _ => pools.take(3),
+        };
+        match taken {
+            Ok(address) => {
+                self.pools = Some(pools);
+                Ok(Some(address))
+            }
+            Err(_) => Ok(None),
+        }
+    }
+
+    /// Gives an address back.
+    pub fn give(&mut self, address: &Address) -> Result<(), Memory>
+        ensures { OnOk result (self.new ≡ by (give address.now) self.old) }
+    {
+        let mut pools = self.copied_pools()?;
+        let _ = pools.give(address);
+        self.pools = Some(pools);
+        Ok(())
+    }
+
+    /// Something is said.
+    pub fn act(&mut self, act: Act) -> Result<(), Memory>
+        ensures { OnOk result (self.new ≡ by (act act) self.old) }
+    {
+        self.acts.push(act)
+    }
+
+    /// The step is done: what it said goes out.
+    pub fn end(self) -> Result<Done, Memory>
+        ensures { IfOk result (λ done. (changed done.changes self.before ≡ self.work.smf) × (done.outs ≡ map out_of self.work.acts)) }
+    {
+        let outs = outs_of(self.alloc, self.acts)?;
+        Ok(Done {
+            supi: self.supi.copy(),
+            cells: self.cells,
+            pools: self.pools,
+            outs,
+        })
+    }
+}
+
+// What was said, as it goes out.
+fn outs_of(alloc: Global, acts: Acts) -> Result<SmfOuts, Memory>
+    ensures { IfOk result (λ outs. outs ≡ map out_of acts) }
+{
+    let mut outs = SmfOuts::new(alloc);
+    for act in acts.items {
+        outs.push(alloc, out_of(act))?;
+    }
+    Ok(outs)
+}
+
+// The same of one.
+fn out_of(act: Act) -> SmfOut
+    ensures { result ≡ out_of act }
+{
+    match act {
+        Act::Down { psi, message } => SmfOut::Down {
+            psi,
+            frame: message.into_octets(),
+        },
+        Act::Fence => SmfOut::Fence,
+        Act::Start { id, at } => SmfOut::Start { id, at },
+        Act::Stop(id) => SmfOut::Stop(id),
+    }
+}
+
+impl Done {
+    /// Takes the changes over, and answers what goes out. It takes no memory.
+    pub fn take_over(self, smf: &mut Smf) -> SmfOuts
+        ensures smf { smf.new ≡ changed self.changes smf.old }
+        ensures outs { result ≡ self.outs }
+    {
+        let Done {
+            supi,
+            cells,
+            pools,
+            outs,
+        } = self;
+        for change in cells {
+            smf.put_cell(&supi, change.psi, change.cell);
+        }
+        if let Some(pools) = pools {
+            smf.pools = pools;
+        }
+        outs
+    }
+}

@@ -1,0 +1,161 @@
+//! The SMF: what it keeps.
+ghost use Rattle.std.specs.Prelude.{◌≡◌, map, option_map, IfOk};
+ghost use Rattle.smf_core.specs.State.{first, put_cell, session_of, status_of, subscriber_in, unused, with_cell};
+
+use crate::cell::Cell;
+use crate::config::{Configured, SmfConfig, SmfSubscriber};
+use crate::net_session::NetSession;
+use crate::subscriber::Subscriber;
+use nas_base::{Memory, Psi, Supi};
+use nas_elements::Status;
+use nas_pools::Pools;
+use std::alloc::Global;
+use std::marker::Model;
+
+/// An SMF: what was configured, its addresses, and what it keeps of its subscribers. A look-up walks over at most 64 SUPIs.
+#[derive(Drop)]
+pub struct Smf {
+    pub(crate) config: Configured,
+    pub(crate) pools: Pools,
+    pub(crate) subscribers: Vec<Subscriber>,
+}
+
+impl Model for Smf {
+    ghost use Rattle.smf_core.specs.State.{SmfState};
+
+    ghost Value = { SmfState };
+
+    ghost view = { λ s. record { config = s.config; pools = s.pools; subscribers = s.subscribers.items } };
+}
+
+impl Smf {
+    /// An SMF that was just made: there is no session, and all addresses are free.
+    ///
+    /// # Errors
+    ///
+    /// `Memory`.
+    pub fn new(alloc: Global, config: &SmfConfig) -> Result<Smf, Memory>
+        ensures { IfOk result (λ smf. smf ≡ first config.now) }
+    {
+        let pools = Pools::new(alloc, config.pool, config.pool_size, config.pool6)?;
+        let subscribers = subscribers_of(alloc, config.subscribers.items.as_slice())?;
+        Ok(Smf {
+            config: config.values(alloc)?,
+            pools,
+            subscribers,
+        })
+    }
+
+    /// An equal value.
+    ///
+    /// # Errors
+    ///
+    /// `Memory`.
+    pub fn copy(&self, alloc: Global) -> Result<Smf, Memory>
+        ensures { IfOk result (λ copy. copy ≡ self.now) }
+    {
+        let pools = self.pools.copy(alloc)?;
+        let subscribers = copied_subscribers(alloc, self.subscribers.as_slice())?;
+        Ok(Smf {
+            config: self.config.copy(alloc)?,
+            pools,
+            subscribers,
+        })
+    }
+
+    /// The session of a subscriber, or None exactly where there is no such session.
+    #[tactic(auto, unfolding(crate::specs::State::session_of, crate::specs::State::cell_of))]
+    pub fn session(&self, supi: &Supi, psi: Psi) -> Option<NetSession>
+        ensures { result ≡ session_of supi.now psi self.now }
+    {
+        let subscriber = self.subscriber(supi)?;
+        let held = subscriber.cells.at(psi).held.as_ref()?;
+        Some(NetSession::of(psi, held))
+    }
+
+    /// Which sessions a subscriber has, in any state.
+    #[tactic(auto, unfolding(crate::specs::State::status_of))]
+    pub fn status(&self, supi: &Supi) -> Status
+        ensures { result ≡ status_of supi.now self.now }
+    {
+        let mut status = Status::empty();
+        for n in 1..16 {
+            let psi = Psi(n);
+            if self.session(supi, psi).is_some() {
+                status.insert(psi);
+            }
+        }
+        status
+    }
+
+    // The record of a SUPI.
+    pub(crate) fn subscriber(&self, supi: &Supi) -> Option<&Subscriber>
+        ensures { option_map (λ s. s.now) result ≡ subscriber_in supi.now self.now.subscribers }
+    {
+        record_of(self.subscribers.as_slice(), supi)
+    }
+
+    // Another cell takes the place of an identity's.
+    #[tactic(auto, unfolding(crate::specs::State::put_cell))]
+    pub(crate) fn put_cell(&mut self, supi: &Supi, psi: Psi, cell: Cell)
+        ensures { self.new ≡ put_cell supi.now psi cell self.old }
+    {
+        put_in(self.subscribers.as_mut_slice(), supi, psi, cell);
+    }
+}
+
+// The record of a SUPI.
+fn record_of<'a>(subscribers: &'a [Subscriber], supi: &Supi) -> Option<&'a Subscriber>
+    ensures { option_map (λ s. s.now) result ≡ subscriber_in supi.now subscribers.now }
+{
+    for subscriber in subscribers {
+        if subscriber.supi.as_slice() == supi.as_slice() {
+            return Some(subscriber);
+        }
+    }
+    None
+}
+
+// Another cell takes the place of an identity's of this SUPI.
+fn put_in(subscribers: &mut [Subscriber], supi: &Supi, psi: Psi, cell: Cell)
+    ensures { subscribers.new ≡ with_cell supi.now psi cell subscribers.old }
+{
+    match subscribers {
+        [] => {}
+        [subscriber, rest @ ..] => {
+            if subscriber.supi.as_slice() == supi.as_slice() {
+                subscriber.cells.put(psi, cell);
+            } else {
+                put_in(rest, supi, psi, cell);
+            }
+        }
+    }
+}
+
+// The records of subscribers of whom nothing came yet.
+fn subscribers_of(alloc: Global, configured: &[SmfSubscriber]) -> Result<Vec<Subscriber>, Memory>
+    ensures { IfOk result (λ subscribers. subscribers.items ≡ map unused configured.now) }
+{
+    let mut subscribers = Vec::new(alloc);
+    for subscriber in configured {
+        let subscriber = Subscriber::unused(alloc, subscriber)?;
+        if subscribers.push(subscriber).is_err() {
+            return Err(Memory);
+        }
+    }
+    Ok(subscribers)
+}
+
+// Equal records of subscribers.
+fn copied_subscribers(alloc: Global, from: &[Subscriber]) -> Result<Vec<Subscriber>, Memory>
+    ensures { IfOk result (λ subscribers. subscribers.items ≡ from.now) }
+{
+    let mut subscribers = Vec::new(alloc);
+    for subscriber in from {
+        let copy = subscriber.copy(alloc)?;
+        if subscribers.push(copy).is_err() {
+            return Err(Memory);
+        }
+    }
+    Ok(subscribers)
+}
