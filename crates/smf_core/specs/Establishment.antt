@@ -180,7 +180,7 @@ newly_requested a kind dnn slice w = decided a kind dnn slice (removed a.psi w)
 
 -- A request that is repeated gets the same answer, unless this was an acceptance whose session is gone.
 abbrev pub repeated : Asking → Answer → Working → Working
-repeated a kept w = when is_accept kept.message.body && is_none (held a.psi w) then w else say_frame a.psi kept.message w
+repeated a kept w = when is_none (held a.psi w) && is_accept kept.message.body then w else say_frame a.psi kept.message w
 
 -- PDU SESSION ESTABLISHMENT REQUEST. Under the context of the answer that is kept, the transaction tells an older request and a
 -- repeated one from a new one, since a handset numbers its transactions upwards in each context.

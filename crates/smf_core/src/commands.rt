@@ -130,20 +130,14 @@ impl<'a> Work<'a> {
     ) -> Result<(), SmfRefusal>
         ensures { Works self.old self.new result (release_in phase psi session self.old.work) }
     {
-        let done = match phase {
-            Phase::Active(_) | Phase::Settling(_) => self.releasing(psi, 0, None, session),
-            Phase::Modifying(modification) => self.releasing(
-                psi,
-                0,
-                Some(modification.command.timer),
-                session,
+        let timer = phase.timer();
+        match phase {
+            Phase::Active(_) | Phase::Modifying(_) | Phase::Settling(_) => unrefused(
+                self.releasing(psi, 0, timer, session),
             ),
-            Phase::Releasing(_) => {
-                return Err(SmfRefusal::WrongState {
-                    state: SmfWord::Releasing,
-                });
-            }
-        };
-        unrefused(done)
+            Phase::Releasing(_) => Err(SmfRefusal::WrongState {
+                state: SmfWord::Releasing,
+            }),
+        }
     }
 }

@@ -4,7 +4,8 @@
 //! back, the pools as a copy. So want of memory leaves all as before, and a step copies the cells alone that it changes. The rows see
 //! nothing of this: what they change is seen as what is kept by now.
 ghost use Rattle.std.specs.Prelude.{◌≡◌, true, [], ◌∷◌, ◌++◌, map, IfOk, OnOk};
-ghost use Rattle.smf_core.specs.Drafts.{Drafted, DoneParts, Takes, by, changed, newest};
+ghost use Rattle.nas_pools.specs.Pools.{has_v6};
+ghost use Rattle.smf_core.specs.Drafts.{Takes, by, changed, newest};
 ghost use Rattle.smf_core.specs.State.{dnns_of, is_subscriber, slices_of};
 ghost use Rattle.smf_core.specs.Step.{out_of, started};
 ghost use Rattle.smf_core.specs.Work.{act, cell, give, put};
@@ -208,15 +209,15 @@ impl<'a> Work<'a> {
     }
 
     /// Something is said.
-    pub fn act(&mut self, act: Act) -> Result<(), Memory>
-        ensures { OnOk result (self.new ≡ by (act act) self.old) }
+    pub fn act(&mut self, said: Act) -> Result<(), Memory>
+        ensures { OnOk result (self.new ≡ by (act said) self.old) }
     {
-        self.acts.push(act)
+        self.acts.push(said)
     }
 
     /// The step is done: what it said goes out.
     pub fn end(self) -> Result<Done, Memory>
-        ensures { IfOk result (λ done. (changed done.changes self.before ≡ self.work.smf) × (done.outs ≡ map out_of self.work.acts)) }
+        ensures { IfOk result (λ done. (changed done.changes self.entry.before ≡ self.entry.work.smf) × (done.outs ≡ map out_of self.entry.work.acts)) }
     {
         let outs = outs_of(self.alloc, self.acts)?;
         Ok(Done {

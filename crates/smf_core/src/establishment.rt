@@ -3,7 +3,7 @@ ghost use Rattle.std.specs.Prelude.{◌≡◌, ◌≤◌, [], ◌∷◌, length,
 ghost use Rattle.nas_qos.specs.declared.part.Part.TheVariants.{All};
 ghost use Rattle.sm_messages.specs.Messages.{spelling};
 ghost use Rattle.smf_core.specs.Drafts.{by};
-ghost use Rattle.smf_core.specs.Establishment.{accept, accepted, addressed, answered, decided, default_rules, default_rules_octets, establishment_requested, has_slice, is_known_kind, is_same_sd, is_same_slice, kind_of_address, named, narrowed, new_session, newly_requested, only_allowed, or_first, refused, repeated, selected, subscribed, wanted};
+ghost use Rattle.smf_core.specs.Establishment.{accept, accepted, addressed, answered, decided, default_rules, default_rules_octets, establishment_requested, has_slice, is_known_kind, is_same_sd, is_same_slice, kind_of_address, named, named_by, narrowed, new_session, newly_requested, only_allowed, or_first, refused, repeated, selected, subscribed, wanted};
 ghost use Rattle.smf_core.specs.Work.{frame};
 
 use crate::cell::{Answer, Cell};
@@ -341,8 +341,25 @@ impl<'a> Work<'a> {
         self.subscribed(asking, &asked)
     }
 
+    // The same, where the subscriber has any.
+    #[tactic(auto, unfolding(nas_base::specs::Branches::per))]
+    fn named_by(
+        &mut self,
+        asking: Asking,
+        kind: Option<SessionType>,
+        dnn: Option<Dnn>,
+        slice: Option<Slice>,
+    ) -> Result<(), Memory>
+        ensures { OnOk result (self.new ≡ by (named_by asking kind dnn slice) self.old) }
+    {
+        match (dnn, slice) {
+            (Some(dnn), Some(slice)) => self.named(asking, kind, dnn, slice),
+            _ => self.refused(asking, MISSING_OR_UNKNOWN_DNN),
+        }
+    }
+
     // The same by its type.
-    #[tactic(auto, unfolding(crate::specs::Establishment::decided, nas_base::specs::Branches::per, nas_base::specs::Branches::chosen))]
+    #[tactic(auto, unfolding(crate::specs::Establishment::decided, nas_base::specs::Branches::chosen))]
     fn decided(
         &mut self,
         asking: Asking,
@@ -355,13 +372,9 @@ impl<'a> Work<'a> {
         if !is_known_kind(kind) {
             return self.refused(asking, UNKNOWN_PDU_SESSION_TYPE);
         }
-        let Some(dnn) = named_dnn(dnn, self.dnns()) else {
-            return self.refused(asking, MISSING_OR_UNKNOWN_DNN);
-        };
-        let Some(slice) = named_slice(slice, self.slices()) else {
-            return self.refused(asking, MISSING_OR_UNKNOWN_DNN);
-        };
-        self.named(asking, kind, dnn, slice)
+        let dnn = named_dnn(dnn, self.dnns());
+        let slice = named_slice(slice, self.slices());
+        self.named_by(asking, kind, dnn, slice)
     }
 
     // A new request.
@@ -384,7 +397,8 @@ impl<'a> Work<'a> {
     fn repeated(&mut self, asking: Asking, kept: Answer) -> Result<(), Memory>
         ensures { OnOk result (self.new ≡ by (repeated asking kept) self.old) }
     {
-        if kept.message.is_accept() && self.held(asking.psi).is_none() {
+        let is_gone = self.held(asking.psi).is_none();
+        if is_gone && kept.message.is_accept() {
             return Ok(());
         }
         self.say_frame(asking.psi, kept.message)

@@ -157,8 +157,9 @@ impl<'a> Work<'a> {
     ) -> Result<(), Memory>
         ensures { OnOk result (self.new ≡ by (modifying modification psi session) self.old) }
     {
-        let message = modification.command.message.copy(self.alloc())?;
-        let id = modification.command.timer;
+        let command = &modification.command;
+        let message = command.message.copy(self.alloc())?;
+        let id = command.timer;
         self.hold(
             psi,
             Held {

@@ -130,13 +130,10 @@ impl<'a> Work<'a> {
     ) -> Result<(), Memory>
         ensures { OnOk result (self.new ≡ by (release_requested_in phase psi pti session) self.old) }
     {
+        let timer = phase.timer();
         match phase {
-            Phase::Active(_) | Phase::Settling(_) => self.releasing(psi, pti, None, session),
-            Phase::Modifying(modification) => self.releasing(
-                psi,
-                pti,
-                Some(modification.command.timer),
-                session,
+            Phase::Active(_) | Phase::Modifying(_) | Phase::Settling(_) => self.releasing(
+                psi, pti, timer, session,
             ),
             Phase::Releasing(_) => Ok(()),
         }

@@ -1,5 +1,6 @@
 //! The SMF: what it keeps.
 ghost use Rattle.std.specs.Prelude.{◌≡◌, map, option_map, IfOk};
+ghost use Rattle.std.specs.Str.{bytes_eq};
 ghost use Rattle.smf_core.specs.State.{first, put_cell, session_of, status_of, subscriber_in, unused, with_cell};
 
 use crate::cell::Cell;
@@ -109,11 +110,18 @@ fn record_of<'a>(subscribers: &'a [Subscriber], supi: &Supi) -> Option<&'a Subsc
     ensures { option_map (λ s. s.now) result ≡ subscriber_in supi.now subscribers.now }
 {
     for subscriber in subscribers {
-        if subscriber.supi.as_slice() == supi.as_slice() {
+        if is_of(subscriber, supi) {
             return Some(subscriber);
         }
     }
     None
+}
+
+// Whether a record is of this SUPI.
+fn is_of(subscriber: &Subscriber, supi: &Supi) -> bool
+    ensures { result ≡ bytes_eq subscriber.now.supi supi.now }
+{
+    subscriber.supi.as_slice() == supi.as_slice()
 }
 
 // Another cell takes the place of an identity's of this SUPI.
@@ -123,7 +131,7 @@ fn put_in(subscribers: &mut [Subscriber], supi: &Supi, psi: Psi, cell: Cell)
     match subscribers {
         [] => {}
         [subscriber, rest @ ..] => {
-            if subscriber.supi.as_slice() == supi.as_slice() {
+            if is_of(subscriber, supi) {
                 subscriber.cells.put(psi, cell);
             } else {
                 put_in(rest, supi, psi, cell);

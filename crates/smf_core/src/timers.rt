@@ -1,5 +1,5 @@
 //! Timers that expire.
-ghost use Rattle.std.specs.Prelude.{◌≡◌, ◌+◌, ◌^◌, ◌<◌, OnOk};
+ghost use Rattle.std.specs.Prelude.{◌≡◌, true, OnOk};
 ghost use Rattle.smf_core.specs.Drafts.{by};
 ghost use Rattle.smf_core.specs.Timers.{again, expired, is_left, modification_expired, of_modifying, of_releasing, release_expired, resent};
 
