@@ -1,1 +1,3 @@
+pub mod Drafting
 pub mod Fits
+pub mod SameRules

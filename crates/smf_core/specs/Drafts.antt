@@ -1,5 +1,7 @@
 -- A step while it goes on beside what was kept before it, and what it changes of that.
-use Rattle.std.specs.Prelude.{◌≡◌, ℕ, ◌==◌, List, [], ◌∷◌, length, Option, Some, None, if◌then◌else◌}
+use Rattle.std.specs.Prelude.{◌≡◌, ℕ, Bool, true, ◌==◌, List, [], ◌∷◌, length, Option, Some, None, if◌then◌else◌}
+use Rattle.std.specs.List.{list_all}
+use Rattle.nas_base.specs.Values.{is_psi}
 use Rattle.nas_elements.specs.declared.address.Address.{Address}
 use Rattle.nas_pools.specs.Pools.{PoolsParts, take_of}
 use Rattle.smf_core.specs.State.{SmfState, put_cell, subscriber_in}
@@ -48,12 +50,21 @@ newest psi [] kept = kept
 newest psi (c ∷ cs) kept = newest psi cs (if c.psi == psi then c.cell else kept)
 
 -- an address was taken, or none is free
+abbrev pub TakesFrom : ℕ → Option Address → PoolsParts → PoolsParts → Type 0
+TakesFrom kind None old new = take_of kind old ≡ None
+TakesFrom kind (Some address) old new = take_of kind old ≡ Some (address, new)
+
 abbrev pub Takes : ℕ → Option Address → Drafted → Drafted → Type 0
 Takes kind None old new = (take_of kind old.work.smf.pools ≡ None) × (new ≡ old)
 Takes kind (Some address) old new =
     (take_of kind old.work.smf.pools ≡ Some (address, new.work.smf.pools)) × (new ≡ by (with_pools new.work.smf.pools) old)
 
--- a SUPI's record, which has a cell for each identity, among those that were kept before a step
-pub record IsKept (supi : List ℕ) (s : Subscriber) (before : SmfState) : Type 0 where
+-- A SUPI's record, which has a cell for each identity, is among those that were kept before a step; the cells that changed have
+-- identities.
+abbrev pub has_identity : ChangedCell → Bool
+has_identity c = is_psi c.psi
+
+pub record IsKept (supi : List ℕ) (s : Subscriber) (cells : List ChangedCell) (before : SmfState) : Type 0 where
   pub found : subscriber_in supi before.subscribers ≡ Some s
   pub whole : length s.cells ≡ 15
+  pub named : list_all has_identity cells ≡ true

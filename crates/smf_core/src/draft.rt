@@ -4,8 +4,8 @@
 //! back, the pools as a copy. So want of memory leaves all as before, and a step copies the cells alone that it changes. The rows see
 //! nothing of this: what they change is seen as what is kept by now.
 ghost use Rattle.std.specs.Prelude.{◌≡◌, true, [], ◌∷◌, ◌++◌, map, IfOk, OnOk};
-ghost use Rattle.nas_pools.specs.Pools.{has_v6};
-ghost use Rattle.smf_core.specs.Drafts.{Takes, by, changed, newest};
+ghost use Rattle.nas_pools.specs.Pools.{freed, has_v6};
+ghost use Rattle.smf_core.specs.Drafts.{Takes, TakesFrom, by, changed, newest};
 ghost use Rattle.smf_core.specs.State.{dnns_of, is_subscriber, slices_of};
 ghost use Rattle.smf_core.specs.Step.{out_of, started};
 ghost use Rattle.smf_core.specs.Work.{act, cell, give, put};
@@ -49,7 +49,7 @@ impl<'a> Model for Work<'a> {
 
     ghost view = { λ w. record { work = record { smf = changed (record { supi = w.supi.now; cells = w.cells.items; pools = w.pools }) w.before.now; supi = w.supi.now; moment = w.moment; acts = w.acts }; before = w.before.now } };
 
-    ghost invariant = { λ w. IsKept w.supi.now w.subscriber.now w.before.now };
+    ghost invariant = { λ w. IsKept w.supi.now w.subscriber.now w.cells.items w.before.now };
 }
 
 /// What a step changes, and what goes out. It is taken over by the SMF that the step was followed from.
@@ -80,6 +80,29 @@ fn newest<'b>(psi: Psi, changed: &'b [ChangedCell], kept: &'b Cell) -> &'b Cell
     }
 }
 
+// Takes the least free address, where there is one: of IPv4 (1), of IPv6 (2), or one of each.
+#[tactic(auto, unfolding(nas_pools::specs::Pools::take_of))]
+fn taken_from(pools: &mut Pools, kind: u8) -> Option<Address>
+    ensures { TakesFrom kind result pools.old pools.new }
+{
+    let taken = match kind {
+        1 => pools.take(1),
+        2 => pools.take(2),
+        _ => pools.take(3),
+    };
+    taken.ok()
+}
+
+// Gives an address back, where it was taken.
+fn give_to(pools: &mut Pools, address: &Address)
+    ensures { pools.new ≡ freed address.now pools.old }
+{
+    match pools.give(address) {
+        Ok(()) => {}
+        Err(_) => {}
+    }
+}
+
 impl<'a> Work<'a> {
     /// A step at its start.
     pub fn new(alloc: Global, before: &'a Smf, now: Moment, supi: &'a Supi) -> Work<'a>
@@ -87,6 +110,7 @@ impl<'a> Work<'a> {
         ensures { result ≡ record { work = started before.now now supi.now; before = before.now } }
     {
         let subscriber = before.subscriber(supi).unwrap();
+        subscriber.cells.whole();
         Work {
             alloc,
             before,
@@ -139,6 +163,7 @@ impl<'a> Work<'a> {
     pub fn cell(&self, psi: Psi) -> &Cell
         ensures { result.now ≡ cell psi self.now.work }
     {
+        let _number = psi.0;
         let subscriber = self.subscriber;
         newest(psi, self.cells.as_slice(), subscriber.cells.at(psi))
     }
@@ -147,6 +172,7 @@ impl<'a> Work<'a> {
     pub fn put(&mut self, psi: Psi, cell: Cell) -> Result<(), Memory>
         ensures { OnOk result (self.new ≡ by (put psi cell) self.old) }
     {
+        let _number = psi.0;
         match self.cells.push(ChangedCell { psi, cell }) {
             Ok(()) => Ok(()),
             Err(_) => Err(Memory),
@@ -184,18 +210,11 @@ impl<'a> Work<'a> {
         ensures { IfOk result (λ address. Takes kind address self.old self.new) }
     {
         let mut pools = self.copied_pools()?;
-        let taken = match kind {
-            1 => pools.take(1),
-            2 => pools.take(2),
-            _ => pools.take(3),
+        let Some(address) = taken_from(&mut pools, kind) else {
+            return Ok(None);
         };
-        match taken {
-            Ok(address) => {
-                self.pools = Some(pools);
-                Ok(Some(address))
-            }
-            Err(_) => Ok(None),
-        }
+        self.pools = Some(pools);
+        Ok(Some(address))
     }
 
     /// Gives an address back.
@@ -203,7 +222,7 @@ impl<'a> Work<'a> {
         ensures { OnOk result (self.new ≡ by (give address.now) self.old) }
     {
         let mut pools = self.copied_pools()?;
-        let _ = pools.give(address);
+        give_to(&mut pools, address);
         self.pools = Some(pools);
         Ok(())
     }

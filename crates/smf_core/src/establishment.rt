@@ -271,7 +271,6 @@ impl<'a> Work<'a> {
     }
 
     // PDU SESSION ESTABLISHMENT REJECT.
-    #[tactic(auto, using(crate::proofs::Fits::establishment_reject_fits))]
     fn refused(&mut self, asking: Asking, cause: u8) -> Result<(), Memory>
         ensures { OnOk result (self.new ≡ by (refused asking cause) self.old) }
     {
@@ -280,7 +279,7 @@ impl<'a> Work<'a> {
     }
 
     // The request is accepted with this address.
-    #[tactic(auto, unfolding(crate::specs::Establishment::accepted), using(crate::proofs::Fits::accept_fits))]
+    #[tactic(auto, unfolding(crate::specs::Establishment::accepted))]
     fn accepted(&mut self, asking: Asking, asked: &Asked, address: Address) -> Result<(), Memory>
         ensures { OnOk result (self.new ≡ by (accepted asking asked.now address) self.old) }
     {
@@ -291,6 +290,8 @@ impl<'a> Work<'a> {
             phase: Phase::Active(None),
         };
         let _dnn = asked.dnn.as_slice();
+        let _slice = asked.slice.size();
+        let _address = address.size();
         let body = accept(self.alloc(), asked, address, ambr)?;
         self.answered(asking, Some(held), body)
     }
@@ -323,20 +324,20 @@ impl<'a> Work<'a> {
         &mut self,
         asking: Asking,
         kind: Option<SessionType>,
-        dnn: Dnn,
-        slice: Slice,
+        dnn: &Dnn,
+        slice: &Slice,
     ) -> Result<(), Memory>
-        ensures { OnOk result (self.new ≡ by (named asking kind dnn slice) self.old) }
+        ensures { OnOk result (self.new ≡ by (named asking kind dnn.now slice.now) self.old) }
     {
-        if !self.dnns().has(&dnn) || !has_slice(&slice, self.slices()) {
+        if !self.dnns().has(dnn) || !has_slice(slice, self.slices()) {
             return self.refused(asking, MISSING_OR_UNKNOWN_DNN);
         }
-        let kinds = self.config().kinds.of(&dnn, self.has_v6());
+        let kinds = self.config().kinds.of(dnn, self.has_v6());
         let asked = Asked {
             kind: wanted(kind, kinds),
             kinds,
-            dnn,
-            slice,
+            dnn: dnn.copy(),
+            slice: slice.copy(),
         };
         self.subscribed(asking, &asked)
     }
@@ -347,10 +348,10 @@ impl<'a> Work<'a> {
         &mut self,
         asking: Asking,
         kind: Option<SessionType>,
-        dnn: Option<Dnn>,
-        slice: Option<Slice>,
+        dnn: &Option<Dnn>,
+        slice: &Option<Slice>,
     ) -> Result<(), Memory>
-        ensures { OnOk result (self.new ≡ by (named_by asking kind dnn slice) self.old) }
+        ensures { OnOk result (self.new ≡ by (named_by asking kind dnn.now slice.now) self.old) }
     {
         match (dnn, slice) {
             (Some(dnn), Some(slice)) => self.named(asking, kind, dnn, slice),
@@ -374,7 +375,7 @@ impl<'a> Work<'a> {
         }
         let dnn = named_dnn(dnn, self.dnns());
         let slice = named_slice(slice, self.slices());
-        self.named_by(asking, kind, dnn, slice)
+        self.named_by(asking, kind, &dnn, &slice)
     }
 
     // A new request.

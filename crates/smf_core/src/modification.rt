@@ -1,5 +1,5 @@
 //! The modification of PDU sessions.
-ghost use Rattle.std.specs.Prelude.{◌≡◌, IfOk, OnOk, Ok};
+ghost use Rattle.std.specs.Prelude.{◌≡◌, ◌≤◌, length, IfOk, OnOk, Ok};
 ghost use Rattle.nas_qos.specs.Operations.{ops_octets};
 ghost use Rattle.smf_core.specs.Drafts.{by};
 ghost use Rattle.smf_core.specs.Modification.{ambr_after, asked_by, changes_nothing, is_last, modification, modification_asked, modification_command, modification_rejected, modification_requested, modification_requested_in, modifying, requested_in_active};
@@ -25,6 +25,7 @@ use std::alloc::Global;
 
 // What operations are written as.
 fn spelled_ops(alloc: Global, ops: &RuleOps) -> Result<Octets, Memory>
+    requires { length (ops_octets ops.now) ≤ 2048 }
     ensures { IfOk result (λ octets. octets ≡ ops_octets ops.now) }
 {
     let mut out = Writer::new();
@@ -36,7 +37,6 @@ fn spelled_ops(alloc: Global, ops: &RuleOps) -> Result<Octets, Memory>
 }
 
 // PDU SESSION MODIFICATION COMMAND, spelled.
-#[tactic(auto, using(crate::proofs::Fits::modification_command_fits))]
 fn spelled_command(
     alloc: Global,
     psi: Psi,
@@ -46,7 +46,7 @@ fn spelled_command(
 ) -> Result<KeptMessage, Memory>
     ensures { IfOk result (λ message. message ≡ frame psi pti (modification_command ambr ops.now)) }
 {
-    let _ = &ops.items;
+    let _ops = ops.as_slice();
     let rules = spelled_ops(alloc, ops)?;
     let frame = SmFrame {
         psi: psi.0,
@@ -118,8 +118,8 @@ fn is_unchanged(session: &Session, rules: &Rules, ambr: &Ambr) -> bool
 fn are_same_rules(rules: &Rules, others: &Rules) -> bool
     ensures { result ≡ are_same_rules rules.now others.now }
 {
-    let _rules = &rules.items;
-    let _others = &others.items;
+    let _rules = rules.as_slice();
+    let _others = others.as_slice();
     rules.equals(others)
 }
 
@@ -172,7 +172,6 @@ impl<'a> Work<'a> {
     }
 
     // PDU SESSION MODIFICATION REJECT.
-    #[tactic(auto, using(crate::proofs::Fits::modification_reject_fits))]
     fn modification_rejected(&mut self, psi: Psi, pti: u8, cause: u8) -> Result<(), Memory>
         ensures { OnOk result (self.new ≡ by (modification_rejected psi pti cause) self.old) }
     {

@@ -20,7 +20,6 @@ pub fn is_no_transaction(pti: u8) -> bool
 }
 
 // PDU SESSION RELEASE COMMAND, not sent yet.
-#[tactic(auto, using(crate::proofs::Fits::release_command_fits))]
 fn release_command(alloc: Global, psi: Psi, pti: u8) -> Result<Command, Memory>
     ensures { IfOk result (λ command. command ≡ release_command psi pti) }
 {
@@ -94,7 +93,6 @@ impl<'a> Work<'a> {
     }
 
     // PDU SESSION RELEASE REJECT.
-    #[tactic(auto, using(crate::proofs::Fits::release_reject_fits))]
     fn release_rejected(&mut self, psi: Psi, pti: u8, cause: u8) -> Result<(), Memory>
         ensures { OnOk result (self.new ≡ by (release_rejected psi pti cause) self.old) }
     {

@@ -132,7 +132,7 @@ fn put_in(subscribers: &mut [Subscriber], supi: &Supi, psi: Psi, cell: Cell)
         [] => {}
         [subscriber, rest @ ..] => {
             if is_of(subscriber, supi) {
-                subscriber.cells.put(psi, cell);
+                subscriber.put(psi, cell);
             } else {
                 put_in(rest, supi, psi, cell);
             }

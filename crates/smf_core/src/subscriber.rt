@@ -1,5 +1,5 @@
 //! What the SMF keeps of a subscriber.
-ghost use Rattle.std.specs.Prelude.{◌≡◌, ◌-◌, replicate, slice_index_or, slice_set, IfOk};
+ghost use Rattle.std.specs.Prelude.{◌≡◌, ◌-◌, length, replicate, slice_index_or, slice_set, IfOk};
 ghost use Rattle.smf_core.specs.State.{unused, vacant};
 
 use crate::cell::Cell;
@@ -47,12 +47,20 @@ impl Cells {
         ensures { IfOk result (λ cells. cells ≡ replicate 15 vacant) }
     {
         let mut items = Vec::new(alloc);
-        for _ in 0..SESSIONS {
+        for place in 0..SESSIONS {
+            let _place = place;
             if items.push(Cell::vacant()).is_err() {
                 return Err(Memory);
             }
         }
         Ok(Cells { items })
+    }
+
+    /// Says that there are 15.
+    pub fn whole(&self)
+        ensures { length self.now ≡ 15 }
+    {
+        let _items = &self.items;
     }
 
     /// The cell of an identity.
@@ -95,6 +103,13 @@ impl Subscriber {
             slices: configured.slices.copy(),
             cells: Cells::vacant(alloc)?,
         })
+    }
+
+    /// Another cell takes the place of an identity's.
+    pub fn put(&mut self, psi: Psi, cell: Cell)
+        ensures { self.new ≡ record self.old { cells = slice_set self.old.cells (psi - 1) cell } }
+    {
+        self.cells.put(psi, cell);
     }
 
     /// An equal value, or `Memory`.

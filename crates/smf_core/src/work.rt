@@ -75,7 +75,6 @@ impl<'a> Work<'a> {
     }
 
     /// 5GSM STATUS with this cause.
-    #[tactic(auto, using(crate::proofs::Fits::status_fits))]
     pub fn status(&mut self, psi: Psi, pti: u8, cause: u8) -> Result<(), Memory>
         ensures { OnOk result (self.new ≡ by (status psi pti cause) self.old) }
     {
