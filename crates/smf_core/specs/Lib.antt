@@ -6,6 +6,7 @@ pub mod Delivery
 pub mod Drafts
 pub mod Establishment
 pub mod Kept
+pub mod Laws
 pub mod Modification
 pub mod Outcome
 pub mod Release

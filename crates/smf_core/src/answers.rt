@@ -151,12 +151,10 @@ impl<'a> Work<'a> {
     pub fn status_told(&mut self, cause: u8, psi: Psi, pti: u8) -> Result<(), Memory>
         ensures { OnOk result (self.new ≡ by (status_told cause psi pti) self.old) }
     {
-        if cause == INVALID_PDU_SESSION_IDENTITY {
-            return self.removed(psi);
+        match cause {
+            INVALID_PDU_SESSION_IDENTITY => self.removed(psi),
+            PTI_MISMATCH => self.modification_refused(psi, pti),
+            _ => Ok(()),
         }
-        if cause == PTI_MISMATCH {
-            return self.modification_refused(psi, pti);
-        }
-        Ok(())
     }
 }

@@ -14,6 +14,7 @@ mod establishment;
 mod held;
 mod inputs;
 mod kept_message;
+pub mod laws;
 mod modification;
 mod net_session;
 mod outs;
