@@ -53,7 +53,7 @@ module _ (ok : ℕ → Bool) (w : Working) (psi : ℕ) (right : ok psi ≡ true)
   abbrev M : Working → Type 0
   M v = Moved ok w v
 
-  said : (v : Working) (p pti : ℕ) (body : Sm) → M v → M (say p pti body v)
+  pub said : (v : Working) (p pti : ℕ) (body : Sm) → M v → M (say p pti body v)
   said v p pti body m = says v (Down p (frame p pti body)) m
 
   -- release

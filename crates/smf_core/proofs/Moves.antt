@@ -119,14 +119,14 @@ pools_leave_cells supi q p smf = refl
 
 -- So what was moved leaves other subscribers,
 pub moved_supi : (ok : ℕ → Bool) (w v : Working) → Moved ok w v → v.supi ≡ w.supi
-moved_supi ok w w stays = refl
+moved_supi ok w _ stays = refl
 moved_supi ok w _ (puts v psi c right m) = moved_supi ok w v m
 moved_supi ok w _ (pools v p m) = moved_supi ok w v m
 moved_supi ok w _ (says v a m) = moved_supi ok w v m
 
 pub moved_others : (ok : ℕ → Bool) (w v : Working) (other : List ℕ) (q : ℕ) → bytes_eq w.supi other ≡ false → Moved ok w v
     → cell_of other q v.smf ≡ cell_of other q w.smf
-moved_others ok w w other q apart stays = refl
+moved_others ok w _ other q apart stays = refl
 moved_others ok w _ other q apart (puts v psi c right m) =
     let P : List ℕ → Type 0 = λ (s : List ℕ). bytes_eq s other ≡ false in
     put_leaves_others v.supi other psi q c v.smf (subst P (sym (moved_supi ok w v m)) apart) ∙ moved_others ok w v other q apart m
@@ -136,7 +136,7 @@ moved_others ok w _ other q apart (says v a m) = moved_others ok w v other q apa
 -- and the identities that the test doesn't allow.
 pub moved_cells : (ok : ℕ → Bool) (w v : Working) (q : ℕ) → ((psi : ℕ) → ok psi ≡ true → q - 1 ≡ psi - 1 → ⊥) → Moved ok w v
     → cell_of w.supi q v.smf ≡ cell_of w.supi q w.smf
-moved_cells ok w w q apart stays = refl
+moved_cells ok w _ q apart stays = refl
 moved_cells ok w _ q apart (puts v psi c right m) =
     let P : List ℕ → Type 0 = λ (s : List ℕ). cell_of s q (put_cell v.supi psi c v.smf) ≡ cell_of s q v.smf in
     subst P (moved_supi ok w v m) (put_leaves_cells v.supi psi q c v.smf (apart psi right)) ∙ moved_cells ok w v q apart m
