@@ -6,15 +6,18 @@ use Rattle.std.specs.List.{list_all}
 use Rattle.std.proofs.lemmas.Bool.Decides.{nat_tests}
 use Rattle.std.proofs.lemmas.Grind.{common_steps}
 use Rattle.nas_base.specs.Values.{is_psi}
-use Rattle.nas_pools.specs.Pools.{PoolsParts}
-use Rattle.smf_core.specs.Drafts.{Changed, changed, has_identity, newest, with_cells, with_changed}
+use Rattle.nas_elements.specs.declared.address.Address.{Address}
+use Rattle.nas_pools.specs.Pools.{PoolsParts, freed, take_of}
+use Rattle.smf_core.specs.Drafts.{Changed, Drafted, Takes, by, changed, has_identity, newest, with_cells, with_changed}
 use Rattle.smf_core.specs.State.{SmfState, cell_at, cell_of, dnns_at, dnns_of, put_cell, slices_at, slices_of, subscriber_in, vacant, with_cell}
+use Rattle.smf_core.specs.Work.{give, put, with_pools}
+use Rattle.smf_core.specs.declared.acts.Act.{Act}
 use Rattle.smf_core.specs.declared.cell.Cell.{Cell}
 use Rattle.smf_core.specs.declared.draft.ChangedCell.{ChangedCell}
 use Rattle.smf_core.specs.declared.subscriber.Subscriber.{Subscriber}
 
 -- one more change of a cell
-with_cells_put : (supi : List ℕ) (cs : List ChangedCell) (c : ChangedCell) (smf : SmfState)
+pub with_cells_put : (supi : List ℕ) (cs : List ChangedCell) (c : ChangedCell) (smf : SmfState)
     → with_cells supi (cs ++ c ∷ []) smf ≡ put_cell supi c.psi c.cell (with_cells supi cs smf)
 with_cells_put supi [] c smf = refl
 with_cells_put supi (x ∷ cs) c smf = with_cells_put supi cs c (put_cell supi x.psi x.cell smf)
@@ -201,3 +204,51 @@ identity_more [] psi c all right = rw right refl
 identity_more (x ∷ cs) psi c all right =
     let both = both_of (has_identity x) (list_all has_identity cs) all in
     and_of (has_identity x) (list_all has_identity (cs ++ record { psi = psi; cell = c } ∷ [])) both.0 (identity_more cs psi c both.1 right)
+
+-- What is seen of a step whose cells or pools changed.
+abbrev pub seen : List ℕ → ℕ → List Act → SmfState → List ChangedCell → Option PoolsParts → Drafted
+seen supi moment acts before cs p = record {
+  work = record { smf = changed (record { supi = supi; cells = cs; pools = p }) before; supi = supi; moment = moment; acts = acts };
+  before = before;
+}
+
+abbrev pub with_smf : List ℕ → ℕ → List Act → SmfState → SmfState → Drafted
+with_smf supi moment acts before smf = record { work = record { smf = smf; supi = supi; moment = moment; acts = acts }; before = before }
+
+pub put_seen : (supi : List ℕ) (moment : ℕ) (acts : List Act) (before : SmfState) (cs new : List ChangedCell) (p : Option PoolsParts)
+    (psi : ℕ) (c : Cell) → new ≡ cs ++ record { psi = psi; cell = c } ∷ []
+    → seen supi moment acts before new p ≡ by (put psi c) (seen supi moment acts before cs p)
+put_seen supi moment acts before cs new p psi c e =
+    ap (λ cells. seen supi moment acts before cells p) e ∙ ap (with_smf supi moment acts before) (changed_put supi cs psi c p before)
+
+pub pools_seen : (supi : List ℕ) (moment : ℕ) (acts : List Act) (before : SmfState) (cs : List ChangedCell) (p : Option PoolsParts)
+    (pools : PoolsParts) → seen supi moment acts before cs (Some pools) ≡ by (with_pools pools) (seen supi moment acts before cs p)
+pools_seen supi moment acts before cs p pools = ap (with_smf supi moment acts before) (changed_pools supi cs p pools before)
+
+pub give_seen : (supi : List ℕ) (moment : ℕ) (acts : List Act) (before : SmfState) (cs : List ChangedCell) (p : Option PoolsParts)
+    (pools : PoolsParts) (address : Address) → pools ≡ freed address (seen supi moment acts before cs p).work.smf.pools
+    → seen supi moment acts before cs (Some pools) ≡ by (give address) (seen supi moment acts before cs p)
+give_seen supi moment acts before cs p pools address e =
+    pools_seen supi moment acts before cs p pools ∙ ap (λ x. by (with_pools x) (seen supi moment acts before cs p)) e
+
+pub take_seen : (supi : List ℕ) (moment : ℕ) (acts : List Act) (before : SmfState) (cs : List ChangedCell) (p : Option PoolsParts)
+    (old pools : PoolsParts) (kind : ℕ) (address : Address) → old ≡ (seen supi moment acts before cs p).work.smf.pools
+    → take_of kind old ≡ Some (address, pools)
+    → Takes kind (Some address) (seen supi moment acts before cs p) (seen supi moment acts before cs (Some pools))
+take_seen supi moment acts before cs p old pools kind address e taking =
+    let now : pools ≡ (seen supi moment acts before cs (Some pools)).work.smf.pools = sym (pools_of_changed supi cs (Some pools) before) in
+    (ap (take_of kind) (sym e) ∙ taking ∙ ap (λ x. Some (address, x)) now,
+    pools_seen supi moment acts before cs p pools ∙ ap (λ x. by (with_pools x) (seen supi moment acts before cs p)) now)
+
+pub none_seen : (supi : List ℕ) (moment : ℕ) (acts : List Act) (before : SmfState) (cs : List ChangedCell) (p : Option PoolsParts)
+    (old : PoolsParts) (kind : ℕ) → old ≡ (seen supi moment acts before cs p).work.smf.pools → take_of kind old ≡ None
+    → Takes kind None (seen supi moment acts before cs p) (seen supi moment acts before cs p)
+none_seen supi moment acts before cs p old kind e taking = (ap (take_of kind) (sym e) ∙ taking, refl)
+
+pub pools_some : (supi : List ℕ) (cs : List ChangedCell) (p : Option PoolsParts) (smf : SmfState) (pools : PoolsParts) → p ≡ Some pools
+    → (changed (record { supi = supi; cells = cs; pools = p }) smf).pools ≡ pools
+pools_some supi cs p smf pools e = pools_of_changed supi cs p smf ∙ ap (λ q. unwrap_or q smf.pools) e
+
+pub pools_none : (supi : List ℕ) (cs : List ChangedCell) (p : Option PoolsParts) (smf : SmfState) → p ≡ None
+    → (changed (record { supi = supi; cells = cs; pools = p }) smf).pools ≡ smf.pools
+pools_none supi cs p smf e = pools_of_changed supi cs p smf ∙ ap (λ q. unwrap_or q smf.pools) e

@@ -1,7 +1,10 @@
 pub mod Drafting
+pub mod Each
 pub mod Fits
 pub mod MovedRows
 pub mod Moves
 pub mod OthersLaws
+pub mod Places
 pub mod RequestLaws
 pub mod SameRules
+pub mod StatusLaws

@@ -28,7 +28,7 @@ use Rattle.smf_core.proofs.Moves.{Moved, given_out, hold_moved, puts, pools, rel
 use Rattle.smf_core.specs.Answers.{command_rejected, command_rejected_of, is_releasing, last_of, modification_completed, modification_of, modification_refused, release_completed, session_after, settled, status_told}
 use Rattle.smf_core.specs.Asks.{all_released, each_from, forgotten, kept_only, kept_only_at, switched, switched_at, unsettled, unsettled_in}
 use Rattle.smf_core.specs.Delivery.{delivered, faulty, five_gsm_status, read, taken}
-use Rattle.smf_core.specs.Establishment.{accept, accepted, accepted_with, addressed, answer_of, answered, asked_of, by_kind, compared, decided, establishment_requested, has_slice, is_known_kind, named, named_by, new_session, newly_requested, or_first, refused, repeated, selected, subscribed}
+use Rattle.smf_core.specs.Establishment.{accept, accepted, accepted_with, addressed, answer_of, answered, asked_for, by_kind, compared, decided_by, establishment_requested, new_session, newly_requested, refused, repeated, selected, subscribed}
 use Rattle.smf_core.specs.Kept.{is_accept, timer_of}
 use Rattle.smf_core.specs.Modification.{asked_by, asked_with, changes_nothing, modification, modification_asked, modification_rejected, modification_requested, modification_requested_in, modifying, requested_in_active}
 use Rattle.smf_core.specs.Release.{is_no_transaction, release_rejected, release_requested, release_requested_in, releasing, removed}
@@ -254,33 +254,13 @@ module _ (ok : ℕ → Bool) (w : Working) (psi : ℕ) (right : ok psi ≡ true)
     unfolding subscribed
     subscribed_moved asked v m = by_kind_moved asked (selected asked.kind asked.kinds) v m
 
-    named_moved : (kind : Option ℕ) (dnn : List ℕ) (slice : Slice) (v : Working) → M v → M (named a kind dnn slice v)
-    named_moved kind dnn slice v m =
-        when_holds M (list_any (is_same_dnn dnn) (dnns_of v.supi v.smf) && has_slice slice (slices_of v.supi v.smf))
-        (subscribed a (asked_of kind (kinds_of dnn (has_v6 v.smf.pools) v.smf.config.kinds) dnn slice) v)
-        (refused a cause.MISSING_OR_UNKNOWN_DNN v)
-        (λ _. subscribed_moved (asked_of kind (kinds_of dnn (has_v6 v.smf.pools) v.smf.config.kinds) dnn slice) v m)
-        (λ _. refused_to cause.MISSING_OR_UNKNOWN_DNN v m)
-
-    named_by_moved : (kind : Option ℕ) (dnn : Option (List ℕ)) (slice : Option Slice) (v : Working) → M v → M (named_by a kind dnn slice v)
-    named_by_moved kind dnn slice v m =
-        per_holds M dnn (refused a cause.MISSING_OR_UNKNOWN_DNN v)
-        (λ (name : List ℕ). per slice (refused a cause.MISSING_OR_UNKNOWN_DNN v) (λ (s : Slice). named a kind name s v))
-        (λ _. refused_to cause.MISSING_OR_UNKNOWN_DNN v m)
-        (λ name _. per_holds M slice (refused a cause.MISSING_OR_UNKNOWN_DNN v) (λ (s : Slice). named a kind name s v)
-          (λ _. refused_to cause.MISSING_OR_UNKNOWN_DNN v m) (λ s _. named_moved kind name s v m))
-
-    decided_moved : (kind : Option ℕ) (dnn : Option (List ℕ)) (slice : Option Slice) (v : Working) → M v → M (decided a kind dnn slice v)
-    unfolding decided
-    decided_moved kind dnn slice v m =
-        when_holds M (is_known_kind kind) (named_by a kind (or_first dnn (dnns_of v.supi v.smf)) (or_first slice (slices_of v.supi v.smf)) v)
-        (refused a cause.UNKNOWN_PDU_SESSION_TYPE v)
-        (λ _. named_by_moved kind (or_first dnn (dnns_of v.supi v.smf)) (or_first slice (slices_of v.supi v.smf)) v m)
-        (λ _. refused_to cause.UNKNOWN_PDU_SESSION_TYPE v m)
+    decided_by_moved : (r : Result Asked ℕ) (v : Working) → M v → M (decided_by a r v)
+    decided_by_moved (Ok asked) v m = subscribed_moved asked v m
+    decided_by_moved (Err n) v m = refused_to n v m
 
     newly_moved : (kind : Option ℕ) (dnn : Option (List ℕ)) (slice : Option Slice) (v : Working) → M v → M (newly_requested a kind dnn slice v)
     unfolding newly_requested
-    newly_moved kind dnn slice v m = decided_moved kind dnn slice (removed psi v) (removed_moved ok w v psi right m)
+    newly_moved kind dnn slice v m = decided_by_moved (asked_for kind dnn slice (removed psi v)) (removed psi v) (removed_moved ok w v psi right m)
 
     repeated_moved : (kept : Answer) (v : Working) → M v → M (repeated a kept v)
     repeated_moved kept v m =

@@ -80,6 +80,7 @@ delivered_moved ok w c right octets =
 -- what the AMF asks
 each_moved : (w : Working) (row : ℕ → Working → Working) → ((psi : ℕ) (v : Working) → Moved (λ _. true) w v → Moved (λ _. true) w (row psi v))
     → (n psi : ℕ) (v : Working) → Moved (λ _. true) w v → Moved (λ _. true) w (each_from n psi row v)
+unfolding each_from
 each_moved w row one zero psi v m = m
 each_moved w row one (suc n) psi v m = each_moved w row one n (psi + 1) (row psi v) (one psi v m)
 

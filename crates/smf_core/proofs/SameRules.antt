@@ -129,8 +129,8 @@ bool_cases false no_way = refl
 pub told_same : (rs ss : List QosRule) → list_all is_rule rs ≡ true → list_all is_rule ss ≡ true → (test : Bool)
     → (IsTrue test → rs ≡ ss) → (rs ≡ ss → IsTrue test) → test ≡ are_same_rules rs ss
 told_same rs ss right left true same back =
-    let e : rs ≡ ss = same tt in
+    let e : rs ≡ ss = same refl in
     let P : List QosRule → Type 0 = λ x. true ≡ are_same_rules rs x in
     subst P e (sym (rules_same rs))
 told_same rs ss right left false same back =
-    sym (bool_cases (are_same_rules rs ss) (λ e. back (same_rules rs ss right left e)))
+    sym (bool_cases (are_same_rules rs ss) (λ e. let no_way : false ≡ true = back (same_rules rs ss right left e) in cc))

@@ -11,7 +11,7 @@ use Rattle.smf_core.specs.declared.held.Phase.{Phase}
 use Rattle.smf_core.specs.declared.held.Phase.TheVariants.{Active, Modifying, Settling, Releasing}
 
 -- a row for each of the identities 1 to 15, one after the other
-abbrev pub each_from : ℕ → ℕ → (ℕ → Working → Working) → Working → Working
+unfoldable pub each_from : ℕ → ℕ → (ℕ → Working → Working) → Working → Working
 each_from zero psi row w = w
 each_from (suc n) psi row w = each_from n (psi + 1) row (row psi w)
 

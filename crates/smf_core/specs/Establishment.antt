@@ -149,30 +149,37 @@ abbrev pub by_kind : Asking → Asked → Result ℕ ℕ → Working → Working
 by_kind a asked (Ok kind) w = addressed a asked kind w
 by_kind a asked (Err n) w = refused a n w
 
--- The first of these cases decides: the type isn't one of the three; the data network or the slice isn't subscribed; the data network
--- doesn't have the type; no address is free.
+-- What a request asks for. The first of these cases decides: the type isn't one of the three; the data network or the slice isn't
+-- subscribed; the data network doesn't have the type; no address is free.
 abbrev pub asked_of : Option ℕ → ℕ → List ℕ → Slice → Asked
 asked_of kind kinds dnn slice = record { kind = wanted kind kinds; kinds = kinds; dnn = dnn; slice = slice }
 
 unfoldable pub subscribed : Asking → Asked → Working → Working
 subscribed a asked w = by_kind a asked (selected asked.kind asked.kinds) w
 
-abbrev pub named : Asking → Option ℕ → List ℕ → Slice → Working → Working
-named a kind dnn slice w =
+abbrev pub named : Option ℕ → List ℕ → Slice → Working → Result Asked ℕ
+named kind dnn slice w =
     when list_any (is_same_dnn dnn) (dnns_of w.supi w.smf) && has_slice slice (slices_of w.supi w.smf)
-    then subscribed a (asked_of kind (kinds_of dnn (has_v6 w.smf.pools) w.smf.config.kinds) dnn slice) w
-    else refused a cause.MISSING_OR_UNKNOWN_DNN w
+    then Ok (asked_of kind (kinds_of dnn (has_v6 w.smf.pools) w.smf.config.kinds) dnn slice)
+    else Err cause.MISSING_OR_UNKNOWN_DNN
 
-abbrev pub named_by : Asking → Option ℕ → Option (List ℕ) → Option Slice → Working → Working
-named_by a kind dnn slice w =
-    per dnn (refused a cause.MISSING_OR_UNKNOWN_DNN w) (λ (name : List ℕ).
-      per slice (refused a cause.MISSING_OR_UNKNOWN_DNN w) (λ (s : Slice). named a kind name s w))
+abbrev pub named_by : Option ℕ → Option (List ℕ) → Option Slice → Working → Result Asked ℕ
+named_by kind dnn slice w =
+    per dnn (Err cause.MISSING_OR_UNKNOWN_DNN) (λ (name : List ℕ).
+      per slice (Err cause.MISSING_OR_UNKNOWN_DNN) (λ (s : Slice). named kind name s w))
 
-unfoldable pub decided : Asking → Option ℕ → Option (List ℕ) → Option Slice → Working → Working
-decided a kind dnn slice w =
+unfoldable pub asked_for : Option ℕ → Option (List ℕ) → Option Slice → Working → Result Asked ℕ
+asked_for kind dnn slice w =
     when is_known_kind kind
-    then named_by a kind (or_first dnn (dnns_of w.supi w.smf)) (or_first slice (slices_of w.supi w.smf)) w
-    else refused a cause.UNKNOWN_PDU_SESSION_TYPE w
+    then named_by kind (or_first dnn (dnns_of w.supi w.smf)) (or_first slice (slices_of w.supi w.smf)) w
+    else Err cause.UNKNOWN_PDU_SESSION_TYPE
+
+abbrev pub decided_by : Asking → Result Asked ℕ → Working → Working
+decided_by a (Ok asked) w = subscribed a asked w
+decided_by a (Err n) w = refused a n w
+
+abbrev pub decided : Asking → Option ℕ → Option (List ℕ) → Option Slice → Working → Working
+decided a kind dnn slice w = decided_by a (asked_for kind dnn slice w) w
 
 -- A new request takes the place of a session with its identity.
 unfoldable pub newly_requested : Asking → Option ℕ → Option (List ℕ) → Option Slice → Working → Working

@@ -15,7 +15,7 @@ use Rattle.sm_messages.specs.declared.message.SmFrame.{SmFrame}
 use Rattle.smf_core.specs.Release.{is_no_transaction}
 use Rattle.smf_core.specs.Sameness.{is_unchanged}
 use Rattle.smf_core.specs.Spelling.{is_same_frame}
-use Rattle.smf_core.specs.Work.{Working, frame, held, hold, say, say_frame, start}
+use Rattle.smf_core.specs.Work.{Working, frame, give_out, held, say}
 use Rattle.smf_core.specs.declared.held.Held.{Held}
 use Rattle.smf_core.specs.declared.held.LastCommand.{LastCommand}
 use Rattle.smf_core.specs.declared.held.Modification.{Modification}
@@ -47,7 +47,7 @@ changes_nothing m last session = is_unchanged session m.rules m.ambr || is_last 
 -- the command is given out
 unfoldable pub modifying : Modification → ℕ → SessionValues → Working → Working
 modifying m psi session w =
-    start m.command.timer (say_frame psi m.command.message (hold psi (record { session = session; phase = Modifying m }) w))
+    give_out m.command.message m.command.timer psi (record { session = session; phase = Modifying m }) w
 
 -- PDU SESSION MODIFICATION REJECT (clause 6.4.2.4)
 abbrev pub modification_rejected : ℕ → ℕ → ℕ → Working → Working

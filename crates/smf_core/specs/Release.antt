@@ -8,7 +8,7 @@ use Rattle.sm_messages.specs.Session.{SessionValues}
 use Rattle.sm_messages.specs.declared.message.Sm.{Sm}
 use Rattle.sm_messages.specs.declared.message.Sm.TheVariants as sm
 use Rattle.smf_core.specs.Kept.{timer_of}
-use Rattle.smf_core.specs.Work.{Working, frame, free, held, hold, say, say_frame, start, stop_timer, vacate}
+use Rattle.smf_core.specs.Work.{Working, frame, free, give_out, held, say, stop_timer, vacate}
 use Rattle.smf_core.specs.declared.held.Command.{Command}
 use Rattle.smf_core.specs.declared.held.Held.{Held}
 use Rattle.smf_core.specs.declared.held.Phase.{Phase}
@@ -36,7 +36,7 @@ release_command psi pti = record {
 -- A session is commanded to be released. A command that was open on it is open no longer, and its timer is stopped.
 abbrev pub releasing_by : Command → Option TimerId → ℕ → SessionValues → Working → Working
 releasing_by c timer psi session w =
-    start c.timer (say_frame psi c.message (hold psi (record { session = session; phase = Releasing c }) (stop_timer timer w)))
+    give_out c.message c.timer psi (record { session = session; phase = Releasing c }) (stop_timer timer w)
 
 unfoldable pub releasing : ℕ → ℕ → Option TimerId → SessionValues → Working → Working
 releasing psi pti timer session w = releasing_by (release_command psi pti) timer psi session w

@@ -5,7 +5,7 @@ use Rattle.nas_timers.specs.declared.timer_id.TimerId.{TimerId}
 use Rattle.nas_timers.specs.declared.timer_id.TimerId.TheVariants.{T3510, T3516, T3517, T3521, T3522, T3550, T3555, T3560, T3580, T3581, T3582, T3591, T3592}
 use Rattle.sm_messages.specs.Session.{SessionValues}
 use Rattle.smf_core.specs.Release.{releasing, removed}
-use Rattle.smf_core.specs.Work.{Working, held, hold, say_frame, start}
+use Rattle.smf_core.specs.Work.{Working, give_out, held}
 use Rattle.smf_core.specs.declared.held.Command.{Command}
 use Rattle.smf_core.specs.declared.held.Held.{Held}
 use Rattle.smf_core.specs.declared.held.Modification.{Modification}
@@ -20,21 +20,18 @@ is_left sendings = nat_lt sendings 5
 abbrev pub again : Command → Command
 again c = record c { sendings = c.sendings + 1 }
 
-abbrev pub resent : Command → ℕ → Working → Working
-resent c psi w = start c.timer (say_frame psi c.message w)
-
 -- T3591: the same command again, four times; at its fifth expiry the session is released
 abbrev pub modification_expired : Modification → ℕ → SessionValues → Working → Working
 modification_expired m psi session w =
     when is_left m.command.sendings
-    then resent m.command psi (hold psi (record { session = session; phase = Modifying (record m { command = again m.command }) }) w)
+    then give_out m.command.message m.command.timer psi (record { session = session; phase = Modifying (record m { command = again m.command }) }) w
     else releasing psi 0 (Some m.command.timer) session w
 
 -- T3592: the same command again, four times; at its fifth expiry the session is removed
 abbrev pub release_expired : Command → ℕ → SessionValues → Working → Working
 release_expired c psi session w =
     when is_left c.sendings
-    then resent c psi (hold psi (record { session = session; phase = Releasing (again c) }) w)
+    then give_out c.message c.timer psi (record { session = session; phase = Releasing (again c) }) w
     else removed psi w
 
 -- A timer whose command is no longer open finds no owner.

@@ -12,7 +12,7 @@ use sm_messages::Session;
 
 impl<'a> Work<'a> {
     /// Another context is in use.
-    #[tactic(auto, unfolding(crate::specs::Asks::switched))]
+    #[tactic(auto, unfolding(crate::specs::Asks::switched), using(crate::proofs::Each::each_more, crate::proofs::Each::each_over))]
     pub fn switched(&mut self) -> Result<(), Memory>
         ensures { OnOk result (self.new ≡ by switched self.old) }
     {
@@ -70,7 +70,7 @@ impl<'a> Work<'a> {
     }
 
     /// All sessions are removed.
-    #[tactic(auto, unfolding(crate::specs::Asks::all_released))]
+    #[tactic(auto, unfolding(crate::specs::Asks::all_released), using(crate::proofs::Each::each_more, crate::proofs::Each::each_over))]
     pub fn all_released(&mut self) -> Result<(), Memory>
         ensures { OnOk result (self.new ≡ by all_released self.old) }
     {
@@ -81,7 +81,7 @@ impl<'a> Work<'a> {
     }
 
     /// All sessions that aren't in this set are removed.
-    #[tactic(auto, unfolding(crate::specs::Asks::kept_only))]
+    #[tactic(auto, unfolding(crate::specs::Asks::kept_only), using(crate::proofs::Each::each_more, crate::proofs::Each::each_over))]
     pub fn kept_only(&mut self, status: &Status) -> Result<(), Memory>
         ensures { OnOk result (self.new ≡ by (kept_only status.now) self.old) }
     {

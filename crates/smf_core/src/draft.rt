@@ -3,7 +3,7 @@
 //! What was kept before the step stays as it is, and beside it stand the cells that changed and, where an address was taken or given
 //! back, the pools as a copy. So want of memory leaves all as before, and a step copies the cells alone that it changes. The rows see
 //! nothing of this: what they change is seen as what is kept by now.
-ghost use Rattle.std.specs.Prelude.{◌≡◌, true, [], ◌∷◌, ◌++◌, map, IfOk, OnOk};
+ghost use Rattle.std.specs.Prelude.{◌≡◌, true, [], ◌∷◌, ◌++◌, map, IfOk, OnErr, OnOk};
 ghost use Rattle.nas_pools.specs.Pools.{freed, has_v6};
 ghost use Rattle.smf_core.specs.Drafts.{Takes, TakesFrom, by, changed, newest};
 ghost use Rattle.smf_core.specs.State.{dnns_of, is_subscriber, slices_of};
@@ -77,6 +77,17 @@ fn newest<'b>(psi: Psi, changed: &'b [ChangedCell], kept: &'b Cell) -> &'b Cell
         [] => kept,
         [change, rest @ ..] if change.psi == psi => newest(psi, rest, &change.cell),
         [_, rest @ ..] => newest(psi, rest, kept),
+    }
+}
+
+// One more cell that changed.
+fn push_cell(cells: &mut Vec<ChangedCell>, psi: Psi, cell: Cell) -> Result<(), Memory>
+    ensures ok { OnOk result (cells.new.items ≡ cells.old.items ++ record { psi = psi; cell = cell } ∷ []) }
+    ensures err { OnErr result (cells.new.items ≡ cells.old.items) }
+{
+    match cells.push(ChangedCell { psi, cell }) {
+        Ok(()) => Ok(()),
+        Err(_) => Err(Memory),
     }
 }
 
@@ -173,10 +184,8 @@ impl<'a> Work<'a> {
         ensures { OnOk result (self.new ≡ by (put psi cell) self.old) }
     {
         let _number = psi.0;
-        match self.cells.push(ChangedCell { psi, cell }) {
-            Ok(()) => Ok(()),
-            Err(_) => Err(Memory),
-        }
+        push_cell(&mut self.cells, psi, cell)?;
+        Ok(())
     }
 
     // The addresses as they are by now.
@@ -205,7 +214,18 @@ impl<'a> Work<'a> {
         }
     }
 
-    /// Takes the least free address, where there is one: of IPv4 (1), of IPv6 (2), or one of each.
+    /// One more cell that changed.
+fn push_cell(cells: &mut Vec<ChangedCell>, psi: Psi, cell: Cell) -> Result<(), Memory>
+    ensures ok { OnOk result (cells.new.items ≡ cells.old.items ++ record { psi = psi; cell = cell } ∷ []) }
+    ensures err { OnErr result (cells.new.items ≡ cells.old.items) }
+{
+    match cells.push(ChangedCell { psi, cell }) {
+        Ok(()) => Ok(()),
+        Err(_) => Err(Memory),
+    }
+}
+
+// Takes the least free address, where there is one: of IPv4 (1), of IPv6 (2), or one of each.
     pub fn take(&mut self, kind: u8) -> Result<Option<Address>, Memory>
         ensures { IfOk result (λ address. Takes kind address self.old self.new) }
     {
@@ -276,6 +296,7 @@ fn out_of(act: Act) -> SmfOut
 
 impl Done {
     /// Takes the changes over, and answers what goes out. It takes no memory.
+    #[tactic(auto, unfolding(crate::specs::Drafts::changed), using(crate::proofs::Drafting::with_cells_put))]
     pub fn take_over(self, smf: &mut Smf) -> SmfOuts
         ensures smf { smf.new ≡ changed self.changes smf.old }
         ensures outs { result ≡ self.outs }

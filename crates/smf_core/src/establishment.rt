@@ -3,7 +3,7 @@ ghost use Rattle.std.specs.Prelude.{◌≡◌, ◌≤◌, [], ◌∷◌, length,
 ghost use Rattle.nas_qos.specs.declared.part.Part.TheVariants.{All};
 ghost use Rattle.sm_messages.specs.Messages.{spelling};
 ghost use Rattle.smf_core.specs.Drafts.{by};
-ghost use Rattle.smf_core.specs.Establishment.{accept, accepted, addressed, answered, decided, default_rules, default_rules_octets, establishment_requested, has_slice, is_known_kind, is_same_sd, is_same_slice, kind_of_address, named, named_by, narrowed, new_session, newly_requested, only_allowed, or_first, refused, repeated, selected, subscribed, wanted};
+ghost use Rattle.smf_core.specs.Establishment.{accept, accepted, addressed, answered, asked_for, default_rules, default_rules_octets, establishment_requested, has_slice, is_known_kind, is_same_sd, is_same_slice, kind_of_address, named, narrowed, new_session, newly_requested, only_allowed, or_first, refused, repeated, selected, subscribed, wanted};
 ghost use Rattle.smf_core.specs.Work.{frame};
 
 use crate::cell::{Answer, Cell};
@@ -318,64 +318,43 @@ impl<'a> Work<'a> {
         }
     }
 
-    // The same by what is subscribed.
+    // What a request asks for that names these, or the cause of its refusal.
     #[tactic(auto, unfolding(nas_base::specs::Branches::chosen))]
-    fn named(
-        &mut self,
-        asking: Asking,
-        kind: Option<SessionType>,
-        dnn: &Dnn,
-        slice: &Slice,
-    ) -> Result<(), Memory>
-        ensures { OnOk result (self.new ≡ by (named asking kind dnn.now slice.now) self.old) }
+    fn named(&self, kind: Option<SessionType>, dnn: &Dnn, slice: &Slice) -> Result<Asked, u8>
+        ensures { result ≡ named kind dnn.now slice.now self.now.work }
     {
         if !self.dnns().has(dnn) || !has_slice(slice, self.slices()) {
-            return self.refused(asking, MISSING_OR_UNKNOWN_DNN);
+            return Err(MISSING_OR_UNKNOWN_DNN);
         }
         let kinds = self.config().kinds.of(dnn, self.has_v6());
-        let asked = Asked {
+        Ok(Asked {
             kind: wanted(kind, kinds),
             kinds,
             dnn: dnn.copy(),
             slice: slice.copy(),
-        };
-        self.subscribed(asking, &asked)
+        })
     }
 
-    // The same, where the subscriber has any.
-    #[tactic(auto, unfolding(nas_base::specs::Branches::per))]
-    fn named_by(
-        &mut self,
-        asking: Asking,
+    // The same where it needn't name them.
+    #[tactic(auto, unfolding(crate::specs::Establishment::asked_for, nas_base::specs::Branches::per, nas_base::specs::Branches::chosen))]
+    fn asked_for(
+        &self,
         kind: Option<SessionType>,
         dnn: &Option<Dnn>,
         slice: &Option<Slice>,
-    ) -> Result<(), Memory>
-        ensures { OnOk result (self.new ≡ by (named_by asking kind dnn.now slice.now) self.old) }
-    {
-        match (dnn, slice) {
-            (Some(dnn), Some(slice)) => self.named(asking, kind, dnn, slice),
-            _ => self.refused(asking, MISSING_OR_UNKNOWN_DNN),
-        }
-    }
-
-    // The same by its type.
-    #[tactic(auto, unfolding(crate::specs::Establishment::decided, nas_base::specs::Branches::chosen))]
-    fn decided(
-        &mut self,
-        asking: Asking,
-        kind: Option<SessionType>,
-        dnn: &Option<Dnn>,
-        slice: &Option<Slice>,
-    ) -> Result<(), Memory>
-        ensures { OnOk result (self.new ≡ by (decided asking kind dnn.now slice.now) self.old) }
+    ) -> Result<Asked, u8>
+        ensures { result ≡ asked_for kind dnn.now slice.now self.now.work }
     {
         if !is_known_kind(kind) {
-            return self.refused(asking, UNKNOWN_PDU_SESSION_TYPE);
+            return Err(UNKNOWN_PDU_SESSION_TYPE);
         }
-        let dnn = named_dnn(dnn, self.dnns());
-        let slice = named_slice(slice, self.slices());
-        self.named_by(asking, kind, &dnn, &slice)
+        let Some(dnn) = named_dnn(dnn, self.dnns()) else {
+            return Err(MISSING_OR_UNKNOWN_DNN);
+        };
+        let Some(slice) = named_slice(slice, self.slices()) else {
+            return Err(MISSING_OR_UNKNOWN_DNN);
+        };
+        self.named(kind, &dnn, &slice)
     }
 
     // A new request.
@@ -390,7 +369,10 @@ impl<'a> Work<'a> {
         ensures { OnOk result (self.new ≡ by (newly_requested asking kind dnn.now slice.now) self.old) }
     {
         self.removed(asking.psi)?;
-        self.decided(asking, kind, dnn, slice)
+        match self.asked_for(kind, dnn, slice) {
+            Ok(asked) => self.subscribed(asking, &asked),
+            Err(cause) => self.refused(asking, cause),
+        }
     }
 
     // A repeated request: the same answer, unless its session is gone.

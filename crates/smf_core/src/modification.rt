@@ -159,16 +159,9 @@ impl<'a> Work<'a> {
     {
         let command = &modification.command;
         let message = command.message.copy(self.alloc())?;
-        let id = command.timer;
-        self.hold(
-            psi,
-            Held {
-                session,
-                phase: Phase::Modifying(modification),
-            },
-        )?;
-        self.say_frame(psi, message)?;
-        self.start(id)
+        let timer = command.timer;
+        let phase = Phase::Modifying(modification);
+        self.give_out(message, timer, psi, Held { session, phase })
     }
 
     // PDU SESSION MODIFICATION REJECT.

@@ -79,17 +79,10 @@ impl<'a> Work<'a> {
         ensures { OnOk result (self.new ≡ by (releasing_by command timer psi session) self.old) }
     {
         let message = command.message.copy(self.alloc())?;
-        let id = command.timer;
+        let own = command.timer;
+        let phase = Phase::Releasing(command);
         self.stop_timer(timer)?;
-        self.hold(
-            psi,
-            Held {
-                session,
-                phase: Phase::Releasing(command),
-            },
-        )?;
-        self.say_frame(psi, message)?;
-        self.start(id)
+        self.give_out(message, own, psi, Held { session, phase })
     }
 
     // PDU SESSION RELEASE REJECT.

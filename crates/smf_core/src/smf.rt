@@ -75,7 +75,7 @@ impl Smf {
     }
 
     /// Which sessions a subscriber has, in any state.
-    #[tactic(auto, unfolding(crate::specs::State::status_of))]
+    #[tactic(auto, unfolding(crate::specs::State::status_of), using(crate::proofs::StatusLaws::told_held, crate::proofs::StatusLaws::told_vacant, crate::proofs::StatusLaws::seen_where_held))]
     pub fn status(&self, supi: &Supi) -> Status
         ensures { result ≡ status_of supi.now self.now }
     {
@@ -125,17 +125,15 @@ fn is_of(subscriber: &Subscriber, supi: &Supi) -> bool
 }
 
 // Another cell takes the place of an identity's of this SUPI.
+#[tactic(auto, using(crate::proofs::Places::none_at_first, crate::proofs::Places::none_more, crate::proofs::Places::hit, crate::proofs::Places::miss))]
 fn put_in(subscribers: &mut [Subscriber], supi: &Supi, psi: Psi, cell: Cell)
     ensures { subscribers.new ≡ with_cell supi.now psi cell subscribers.old }
 {
-    match subscribers {
-        [] => {}
-        [subscriber, rest @ ..] => {
-            if is_of(subscriber, supi) {
-                subscriber.put(psi, cell);
-            } else {
-                put_in(rest, supi, psi, cell);
-            }
+    for place in 0..subscribers.len() {
+        let subscriber = &mut subscribers[place];
+        if is_of(subscriber, supi) {
+            subscriber.put(psi, cell);
+            return;
         }
     }
 }

@@ -1,7 +1,7 @@
 //! Timers that expire.
 ghost use Rattle.std.specs.Prelude.{◌≡◌, true, OnOk};
 ghost use Rattle.smf_core.specs.Drafts.{by};
-ghost use Rattle.smf_core.specs.Timers.{again, expired, is_left, modification_expired, of_modifying, of_releasing, release_expired, resent};
+ghost use Rattle.smf_core.specs.Timers.{again, expired, is_left, modification_expired, of_modifying, of_releasing, release_expired};
 
 use crate::draft::Work;
 use crate::held::{Command, Held, Modification, Phase};
@@ -88,15 +88,13 @@ impl<'a> Work<'a> {
             return self.releasing(psi, 0, Some(command.timer), session);
         }
         let message = command.message.copy(self.alloc())?;
-        let id = command.timer;
+        let timer = command.timer;
         let phase = Phase::Modifying(Modification {
             command: again(command),
             rules,
             ambr,
         });
-        self.hold(psi, Held { session, phase })?;
-        self.say_frame(psi, message)?;
-        self.start(id)
+        self.give_out(message, timer, psi, Held { session, phase })
     }
 
     // T3592 expired.
@@ -113,10 +111,8 @@ impl<'a> Work<'a> {
             return self.removed(psi);
         }
         let message = command.message.copy(self.alloc())?;
-        let id = command.timer;
+        let timer = command.timer;
         let phase = Phase::Releasing(again(command));
-        self.hold(psi, Held { session, phase })?;
-        self.say_frame(psi, message)?;
-        self.start(id)
+        self.give_out(message, timer, psi, Held { session, phase })
     }
 }

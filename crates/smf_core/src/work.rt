@@ -2,7 +2,7 @@
 ghost use Rattle.std.specs.Prelude.{◌≡◌, ◌≤◌, length, option_map, OnOk};
 ghost use Rattle.sm_messages.specs.Messages.{spelling};
 ghost use Rattle.smf_core.specs.Drafts.{by};
-ghost use Rattle.smf_core.specs.Work.{fence, frame, free, held, hold, say, say_frame, start, status, stop, stop_timer, vacate};
+ghost use Rattle.smf_core.specs.Work.{fence, frame, free, give_out, held, hold, say, say_frame, start, status, stop, stop_timer, vacate};
 
 use crate::acts::Act;
 use crate::cell::Cell;
@@ -101,6 +101,21 @@ impl<'a> Work<'a> {
         ensures { OnOk result (self.new ≡ by (stop id) self.old) }
     {
         self.act(Act::Stop(id))
+    }
+
+    /// A command is given out: the session is kept with it, it goes down, and its timer is started.
+    pub fn give_out(
+        &mut self,
+        message: KeptMessage,
+        timer: TimerId,
+        psi: Psi,
+        session: Held,
+    ) -> Result<(), Memory>
+        ensures { OnOk result (self.new ≡ by (give_out message timer psi session) self.old) }
+    {
+        self.hold(psi, session)?;
+        self.say_frame(psi, message)?;
+        self.start(timer)
     }
 
     /// A timer is stopped, if there is one.

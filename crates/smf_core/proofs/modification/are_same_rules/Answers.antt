@@ -3,5 +3,5 @@ use Rattle.smf_core.proofs.modification.are_same_rules.Goals as goal
 
 pub returns : goal.returns
 returns c =
-    told_same c.args.rules.now c.args.others.now (rw (← c.as_slice.ensures.value) c.as_slice.ensures.rules.each)
-    (rw (← c.as_slice-2.ensures.value) c.as_slice-2.ensures.rules.each) c.equals.result c.equals.ensures.0 c.equals.ensures.1
+    told_same c.args.rules.now c.args.others.now (rw (← c.as_slice-rules.ensures.value) c.as_slice-rules.ensures.rules.each)
+    (rw (← c.as_slice-others.ensures.value) c.as_slice-others.ensures.rules.each) c.equals.result c.equals.ensures.0 c.equals.ensures.1
