@@ -1,5 +1,5 @@
 //! The establishment of PDU sessions.
-ghost use Rattle.std.specs.Prelude.{◌≡◌, ◌≤◌, [], ◌∷◌, length, IfOk, OnOk};
+ghost use Rattle.std.specs.Prelude.{◌≡◌, ◌≤◌, [], ◌∷◌, length, option_map, IfOk, OnOk};
 ghost use Rattle.nas_qos.specs.declared.part.Part.TheVariants.{All};
 ghost use Rattle.sm_messages.specs.Messages.{spelling};
 ghost use Rattle.smf_core.specs.Drafts.{by};
@@ -187,26 +187,26 @@ fn has_slice(slice: &Slice, slices: &Nssai) -> bool
 }
 
 // The data network that a request names, or else the first.
-fn named_dnn(dnn: &Option<Dnn>, dnns: &Dnns) -> Option<Dnn>
-    ensures { result ≡ or_first dnn.now dnns.now }
+fn named_dnn<'b>(dnn: &'b Option<Dnn>, dnns: &'b Dnns) -> Option<&'b Dnn>
+    ensures { option_map (λ d. d.now) result ≡ or_first dnn.now dnns.now }
 {
     match dnn {
-        Some(dnn) => Some(dnn.copy()),
+        Some(name) => Some(name),
         None => match dnns.as_slice() {
-            [dnn, ..] => Some(dnn.copy()),
+            [first, ..] => Some(first),
             [] => None,
         },
     }
 }
 
 // The slice that a request names, or else the first.
-fn named_slice(slice: &Option<Slice>, slices: &Nssai) -> Option<Slice>
-    ensures { result ≡ or_first slice.now slices.now }
+fn named_slice<'b>(slice: &'b Option<Slice>, slices: &'b Nssai) -> Option<&'b Slice>
+    ensures { option_map (λ s. s.now) result ≡ or_first slice.now slices.now }
 {
     match slice {
-        Some(slice) => Some(slice.copy()),
+        Some(named) => Some(named),
         None => match slices.as_slice() {
-            [slice, ..] => Some(slice.copy()),
+            [first, ..] => Some(first),
             [] => None,
         },
     }
@@ -348,13 +348,13 @@ impl<'a> Work<'a> {
         if !is_known_kind(kind) {
             return Err(UNKNOWN_PDU_SESSION_TYPE);
         }
-        let Some(dnn) = named_dnn(dnn, self.dnns()) else {
+        let Some(network) = named_dnn(dnn, self.dnns()) else {
             return Err(MISSING_OR_UNKNOWN_DNN);
         };
-        let Some(slice) = named_slice(slice, self.slices()) else {
+        let Some(part) = named_slice(slice, self.slices()) else {
             return Err(MISSING_OR_UNKNOWN_DNN);
         };
-        self.named(kind, &dnn, &slice)
+        self.named(kind, network, part)
     }
 
     // A new request.
