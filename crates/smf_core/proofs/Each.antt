@@ -1,5 +1,5 @@
 -- Rows for one identity after the other.
-use Rattle.std.proofs.Common.{◌≡◌, ◌<◌, ◌-◌, ◌+◌, ℕ, suc, ap, refl, sym, arith}
+use Rattle.std.proofs.Common.{◌≡◌, ◌<◌, ◌≤◌, ◌-◌, ◌+◌, ℕ, suc, ap, refl, sym, ◌∙◌, arith}
 use Rattle.smf_core.specs.Asks.{each_from}
 use Rattle.smf_core.specs.Drafts.{Drafted, by}
 use Rattle.smf_core.specs.Work.{Working}
@@ -19,3 +19,8 @@ each_more n row d more =
 pub each_over : (row : ℕ → Working → Working) (d : Drafted) → by (each_from (16 - 16) 16 row) d ≡ d
 unfolding each_from
 each_over row d = refl
+
+pub over_at : (n : ℕ) (row : ℕ → Working → Working) (d : Drafted) → 16 ≤ n → n ≤ 16 → by (each_from (16 - n) n row) d ≡ d
+over_at n row d low high =
+    let e : n ≡ 16 = omega arith in
+    ap (λ m. by (each_from (16 - m) m row) d) e ∙ each_over row d

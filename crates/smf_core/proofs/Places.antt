@@ -73,3 +73,14 @@ unfolding none_before
 miss psi supi c [] none = refl
 miss psi supi c (s ∷ ss) none = miss_at psi supi c s ss (bytes_eq s.supi supi) refl none (miss psi supi c ss)
 
+
+-- a record that is put where it stands
+pub put_there : (ss : List Subscriber) (n : ℕ) (x : Subscriber) → set ss n (get_or ss n x) ≡ ss
+put_there [] n x = refl
+put_there (s ∷ ss) zero x = refl
+put_there (s ∷ ss) (suc n) x = ap (λ more. s ∷ more) (put_there ss n x)
+
+pub none_more_there : (n : ℕ) (supi : List ℕ) (ss : List Subscriber) (x : Subscriber) → x ≡ get_or ss n x → n < length ss
+    → none_before n supi ss ≡ true → bytes_eq x.supi supi ≡ false → none_before (n + 1) supi (set ss n (get_or ss n x)) ≡ true
+none_more_there n supi ss x is within none other =
+    ap (none_before (n + 1) supi) (put_there ss n x) ∙ none_more n supi ss x is within none other

@@ -44,24 +44,44 @@ told_split k test more =
     let at : suc k - 1 ≡ k = omega arith in
     rw (left, at) refl
 
+snoc_append : (xs : List Bool) (y : Bool) (zs : List Bool) → (xs ++ y ∷ []) ++ zs ≡ xs ++ y ∷ zs
+snoc_append [] y zs = refl
+snoc_append (x ∷ xs) y zs = ap (λ rest. x ∷ rest) (snoc_append xs y zs)
+
 told_next : (k : ℕ) (test : ℕ → Bool) → k < 15 → told (suc (suc k)) test ≡ tests_from k 1 test ++ test (suc k) ∷ replicate (15 - suc k) false
 told_next k test more =
     let left : 16 - suc (suc k) ≡ 15 - suc k = omega arith in
     let at : suc (suc k) - 1 ≡ suc k = omega arith in
     let place : 1 + k ≡ suc k = omega arith in
-    rw (left, at, tests_snoc k 1 test, place) (append_assoc (tests_from k 1 test) (test (suc k) ∷ []) (replicate (15 - suc k) false))
+    ap (λ m. tests_from m 1 test ++ replicate (16 - suc (suc k)) false) at
+    ∙ ap (λ m. tests_from (suc k) 1 test ++ replicate m false) left
+    ∙ ap (λ front. front ++ replicate (15 - suc k) false) (tests_snoc k 1 test)
+    ∙ snoc_append (tests_from k 1 test) (test (1 + k)) (replicate (15 - suc k) false)
+    ∙ ap (λ m. tests_from k 1 test ++ test m ∷ replicate (15 - suc k) false) place
 
 pub told_held : (n : ℕ) (test : ℕ → Bool) → 1 ≤ n → n < 16 → test n ≡ true → with_session n (told n test) ≡ told (n + 1) test
 told_held zero test low more held = absurd (not_zero low)
 told_held (suc k) test low more held =
     let less : k < 15 = omega arith in
     let at : suc k - 1 ≡ length (tests_from k 1 test) = omega (arith, length-tests k 1 test) in
-    let next : suc k + 1 ≡ suc (suc k) = omega arith in
-    rw (next, told_next k test less, held, told_split k test less, at) (set_behind (tests_from k 1 test) false true (replicate (15 - suc k) false))
+    let next : suc (suc k) ≡ suc k + 1 = omega arith in
+    ap (λ xs. slice_set xs (suc k - 1) true) (told_split k test less)
+    ∙ ap (λ i. slice_set (tests_from k 1 test ++ false ∷ replicate (15 - suc k) false) i true) at
+    ∙ set_behind (tests_from k 1 test) false true (replicate (15 - suc k) false)
+    ∙ ap (λ b. tests_from k 1 test ++ b ∷ replicate (15 - suc k) false) (sym held)
+    ∙ sym (told_next k test less)
+    ∙ ap (λ m. told m test) next
 
 pub told_vacant : (n : ℕ) (test : ℕ → Bool) → 1 ≤ n → n < 16 → test n ≡ false → told n test ≡ told (n + 1) test
 told_vacant zero test low more vacant = absurd (not_zero low)
 told_vacant (suc k) test low more vacant =
     let less : k < 15 = omega arith in
-    let next : suc k + 1 ≡ suc (suc k) = omega arith in
-    rw (next, told_next k test less, vacant, told_split k test less) refl
+    let next : suc (suc k) ≡ suc k + 1 = omega arith in
+    told_split k test less
+    ∙ ap (λ b. tests_from k 1 test ++ b ∷ replicate (15 - suc k) false) (sym vacant)
+    ∙ sym (told_next k test less)
+    ∙ ap (λ m. told m test) next
+
+pub told_all : (n : ℕ) (test : ℕ → Bool) → 16 ≤ n → n ≤ 16 → told n test ≡ tests_from 15 1 test
+told_all n test low high =
+    let e : n ≡ 16 = omega arith in ap (λ m. told m test) e

@@ -78,7 +78,7 @@ abbrev pub stop : TimerId → Working → Working
 stop id w = act (Stop id) w
 
 -- A command is given out: the session is kept with it, it goes down, and its timer is started.
-abbrev pub give_out : SmfFrame → TimerId → ℕ → Held → Working → Working
+abbrev pub give_out : SmFrame → TimerId → ℕ → Held → Working → Working
 give_out message timer psi h w = start timer (say_frame psi message (hold psi h w))
 
 -- the timer of the command that is open, if there is one
