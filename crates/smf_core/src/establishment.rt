@@ -337,11 +337,11 @@ impl<'a> Work<'a> {
 
     // The same where it needn't name them.
     #[tactic(auto, unfolding(crate::specs::Establishment::asked_for, nas_base::specs::Branches::per, nas_base::specs::Branches::chosen))]
-    fn asked_for(
-        &self,
+    fn asked_for<'x>(
+        &'x self,
         kind: Option<SessionType>,
-        dnn: &Option<Dnn>,
-        slice: &Option<Slice>,
+        dnn: &'x Option<Dnn>,
+        slice: &'x Option<Slice>,
     ) -> Result<Asked, u8>
         ensures { result ≡ asked_for kind dnn.now slice.now self.now.work }
     {
