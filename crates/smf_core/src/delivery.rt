@@ -96,7 +96,7 @@ impl<'a> Work<'a> {
                 };
                 self.establishment_requested(
                     asking,
-                    request.session_type,
+                    &request.session_type,
                     &carried.dnn,
                     &carried.slice,
                 )

@@ -93,8 +93,8 @@ fn default_rules_octets(alloc: Global) -> Result<Octets, Memory>
 
 // Whether this is one of the three types, where a type is asked for.
 #[tactic(auto, unfolding(nas_base::specs::Branches::per))]
-fn is_known_kind(kind: Option<SessionType>) -> bool
-    ensures { result ≡ is_known_kind kind }
+fn is_known_kind(kind: &Option<SessionType>) -> bool
+    ensures { result ≡ is_known_kind kind.now }
 {
     match kind {
         Some(kind) => 1 <= kind.0 && kind.0 <= 3,
@@ -104,8 +104,8 @@ fn is_known_kind(kind: Option<SessionType>) -> bool
 
 // The type that is asked for on a data network of these kinds.
 #[tactic(auto, unfolding(nas_base::specs::Branches::per, nas_base::specs::Branches::chosen))]
-fn wanted(kind: Option<SessionType>, kinds: u8) -> u8
-    ensures { result ≡ wanted kind kinds }
+fn wanted(kind: &Option<SessionType>, kinds: u8) -> u8
+    ensures { result ≡ wanted kind.now kinds }
 {
     match kind {
         Some(kind) => kind.0,
@@ -320,8 +320,8 @@ impl<'a> Work<'a> {
 
     // What a request asks for that names these, or the cause of its refusal.
     #[tactic(auto, unfolding(nas_base::specs::Branches::chosen))]
-    fn named(&self, kind: Option<SessionType>, dnn: &Dnn, slice: &Slice) -> Result<Asked, u8>
-        ensures { result ≡ named kind dnn.now slice.now self.now.work }
+    fn named(&self, kind: &Option<SessionType>, dnn: &Dnn, slice: &Slice) -> Result<Asked, u8>
+        ensures { result ≡ named kind.now dnn.now slice.now self.now.work }
     {
         if !self.dnns().has(dnn) || !has_slice(slice, self.slices()) {
             return Err(MISSING_OR_UNKNOWN_DNN);
@@ -339,11 +339,11 @@ impl<'a> Work<'a> {
     #[tactic(auto, unfolding(crate::specs::Establishment::asked_for, nas_base::specs::Branches::per, nas_base::specs::Branches::chosen))]
     fn asked_for<'x>(
         &'x self,
-        kind: Option<SessionType>,
+        kind: &Option<SessionType>,
         dnn: &'x Option<Dnn>,
         slice: &'x Option<Slice>,
     ) -> Result<Asked, u8>
-        ensures { result ≡ asked_for kind dnn.now slice.now self.now.work }
+        ensures { result ≡ asked_for kind.now dnn.now slice.now self.now.work }
     {
         if !is_known_kind(kind) {
             return Err(UNKNOWN_PDU_SESSION_TYPE);
@@ -362,11 +362,11 @@ impl<'a> Work<'a> {
     fn newly_requested(
         &mut self,
         asking: Asking,
-        kind: Option<SessionType>,
+        kind: &Option<SessionType>,
         dnn: &Option<Dnn>,
         slice: &Option<Slice>,
     ) -> Result<(), Memory>
-        ensures { OnOk result (self.new ≡ by (newly_requested asking kind dnn.now slice.now) self.old) }
+        ensures { OnOk result (self.new ≡ by (newly_requested asking kind.now dnn.now slice.now) self.old) }
     {
         self.removed(asking.psi)?;
         match self.asked_for(kind, dnn, slice) {
@@ -392,11 +392,11 @@ impl<'a> Work<'a> {
     pub fn establishment_requested(
         &mut self,
         asking: Asking,
-        kind: Option<SessionType>,
+        kind: &Option<SessionType>,
         dnn: &Option<Dnn>,
         slice: &Option<Slice>,
     ) -> Result<(), Memory>
-        ensures { OnOk result (self.new ≡ by (establishment_requested asking kind dnn.now slice.now) self.old) }
+        ensures { OnOk result (self.new ≡ by (establishment_requested asking kind.now dnn.now slice.now) self.old) }
     {
         if is_no_transaction(asking.pti) {
             return Ok(());
