@@ -236,9 +236,10 @@ pub take_seen : (supi : List ℕ) (moment : ℕ) (acts : List Act) (before : Smf
     → take_of kind old ≡ Some (address, pools)
     → Takes kind (Some address) (seen supi moment acts before cs p) (seen supi moment acts before cs (Some pools))
 take_seen supi moment acts before cs p old pools kind address e taking =
-    let now : pools ≡ (seen supi moment acts before cs (Some pools)).work.smf.pools = sym (pools_of_changed supi cs (Some pools) before) in
-    (ap (take_of kind) (sym e) ∙ taking ∙ ap (λ x. Some (address, x)) now,
-    pools_seen supi moment acts before cs p pools ∙ ap (λ x. by (with_pools x) (seen supi moment acts before cs p)) now)
+    let now : pools ≡ (seen supi moment acts before cs (Some pools)).work.smf.pools = sym (pools_of_changed supi cs (Some pools) before) in (
+      ap (take_of kind) (sym e) ∙ taking ∙ ap (λ x. Some (address, x)) now,
+      pools_seen supi moment acts before cs p pools ∙ ap (λ x. by (with_pools x) (seen supi moment acts before cs p)) now,
+    )
 
 pub none_seen : (supi : List ℕ) (moment : ℕ) (acts : List Act) (before : SmfState) (cs : List ChangedCell) (p : Option PoolsParts)
     (old : PoolsParts) (kind : ℕ) → old ≡ (seen supi moment acts before cs p).work.smf.pools → take_of kind old ≡ None

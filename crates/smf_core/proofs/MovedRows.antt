@@ -68,11 +68,11 @@ module _ (ok : ℕ → Bool) (w : Working) (psi : ℕ) (right : ok psi ≡ true)
   release_asked pti v m =
       when_holds M (is_no_transaction pti) v
       (per (held psi v) (release_rejected psi pti cause.INVALID_PDU_SESSION_IDENTITY v)
-        (λ (h : Held). release_requested_in h.phase psi pti h.session v))
+      (λ (h : Held). release_requested_in h.phase psi pti h.session v))
       (λ _. m)
       (λ _. per_holds M (held psi v) (release_rejected psi pti cause.INVALID_PDU_SESSION_IDENTITY v)
-        (λ (h : Held). release_requested_in h.phase psi pti h.session v)
-        (λ _. said v psi pti _ m) (λ h _. release_asked_in h.phase pti h.session v m))
+      (λ (h : Held). release_requested_in h.phase psi pti h.session v)
+      (λ _. said v psi pti _ m) (λ h _. release_asked_in h.phase pti h.session v m))
 
   -- modification
   pub modifying_moved : (x : Modification) (session : SessionValues) (v : Working) → M v → M (modifying x psi session v)
@@ -117,11 +117,11 @@ module _ (ok : ℕ → Bool) (w : Working) (psi : ℕ) (right : ok psi ≡ true)
   modification_asked_for rules pti v m =
       when_holds M (is_no_transaction pti) v
       (per (held psi v) (modification_rejected psi pti cause.INVALID_PDU_SESSION_IDENTITY v)
-        (λ (h : Held). modification_requested_in h.phase rules psi pti h.session v))
+      (λ (h : Held). modification_requested_in h.phase rules psi pti h.session v))
       (λ _. m)
       (λ _. per_holds M (held psi v) (modification_rejected psi pti cause.INVALID_PDU_SESSION_IDENTITY v)
-        (λ (h : Held). modification_requested_in h.phase rules psi pti h.session v)
-        (λ _. said v psi pti _ m) (λ h _. modification_asked_in h.phase rules pti h.session v m))
+      (λ (h : Held). modification_requested_in h.phase rules psi pti h.session v)
+      (λ _. said v psi pti _ m) (λ h _. modification_asked_in h.phase rules pti h.session v m))
 
   -- answers
   settled_moved : (session : SessionValues) (c : Command) (v : Working) → M v → M (settled session c psi v)
@@ -283,5 +283,5 @@ module _ (ok : ℕ → Bool) (w : Working) (psi : ℕ) (right : ok psi ≡ true)
         (per (cell psi v).answer (newly_requested a kind dnn slice v) (λ (kept : Answer). compared a kept (newly_requested a kind dnn slice) v))
         (λ _. m)
         (λ _. per_holds M (cell psi v).answer (newly_requested a kind dnn slice v)
-          (λ (kept : Answer). compared a kept (newly_requested a kind dnn slice) v)
-          (λ _. newly_moved kind dnn slice v m) (λ kept _. compared_moved kept kind dnn slice v m))
+        (λ (kept : Answer). compared a kept (newly_requested a kind dnn slice) v)
+        (λ _. newly_moved kind dnn slice v m) (λ kept _. compared_moved kept kind dnn slice v m))

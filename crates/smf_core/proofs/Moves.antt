@@ -48,7 +48,7 @@ unfolding removed
 removed_moved ok w v psi right m =
     per_holds (Moved ok w) (held psi v) v (λ (h : Held). removed_of psi h v) (λ _. m)
     (λ h _. free_moved ok w (stop_timer (timer_of h.phase) (vacate psi v)) h.session.address
-      (stop_moved ok w (vacate psi v) (timer_of h.phase) (puts v psi (record (cell psi v) { held = None }) right m)))
+    (stop_moved ok w (vacate psi v) (timer_of h.phase) (puts v psi (record (cell psi v) { held = None }) right m)))
 
 pub given_out : (ok : ℕ → Bool) (w v : Working) (psi : ℕ) (message : SmFrame) (timer : TimerId) → Moved ok w v
     → Moved ok w (start timer (say_frame psi message v))
@@ -61,7 +61,7 @@ releasing_moved ok w v psi pti timer session right m =
     given_out ok w (hold psi (record { session = session; phase = Releasing (release_command psi pti) }) (stop_timer timer v)) psi
     (release_command psi pti).message (release_command psi pti).timer
     (hold_moved ok w (stop_timer timer v) psi (record { session = session; phase = Releasing (release_command psi pti) }) right
-      (stop_moved ok w v timer m))
+    (stop_moved ok w v timer m))
 
 -- What a change of a cell leaves: the cells of other subscribers,
 same_octets : (a b : List ℕ) → bytes_eq a b ≡ true → a ≡ b

@@ -208,7 +208,8 @@ others_stay smf now supi input one = go (worked input (started smf now supi)) (w
   go : (r : Result Working SmfRefusal) → Goes (concerns input) (started smf now supi) r → IfOk (finished r) (λ (s : Stepped).
       ((other : List ℕ) (q : ℕ) → bytes_eq supi other ≡ false → cell_of other q s.smf ≡ cell_of other q smf)
       × ((q : ℕ) → is_psi q ≡ true → concerns input q ≡ false → cell_of supi q s.smf ≡ cell_of supi q smf))
-  go (Ok v) moved =
-      ((λ other q apart. moved_others (concerns input) (started smf now supi) v other q apart moved),
-      (λ q right differ. moved_cells (concerns input) (started smf now supi) v q (λ p same place. input_apart input q p one right differ same place) moved))
+  go (Ok v) moved = (
+    (λ other q apart. moved_others (concerns input) (started smf now supi) v other q apart moved),
+    (λ q right differ. moved_cells (concerns input) (started smf now supi) v q (λ p same place. input_apart input q p one right differ same place) moved),
+  )
   go (Err e) moved = tt

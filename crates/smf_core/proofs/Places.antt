@@ -73,7 +73,6 @@ unfolding none_before
 miss psi supi c [] none = refl
 miss psi supi c (s ∷ ss) none = miss_at psi supi c s ss (bytes_eq s.supi supi) refl none (miss psi supi c ss)
 
-
 -- a record that is put where it stands
 pub put_there : (ss : List Subscriber) (n : ℕ) (x : Subscriber) → set ss n (get_or ss n x) ≡ ss
 put_there [] n x = refl

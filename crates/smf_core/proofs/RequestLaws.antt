@@ -48,8 +48,8 @@ compared_again a kept new w same number =
     when_holds P (is_challenge kept.challenge a.challenge && nat_le a.pti kept.message.pti)
     (when a.pti == kept.message.pti then repeated a kept w else w) (new w)
     (λ _. when_holds P (a.pti == kept.message.pti) (repeated a kept w) w
-      (λ _. when_holds P (is_none (held a.psi w) && is_accept kept.message.body) w (say_frame a.psi kept.message w) (λ _. inl refl) (λ _. inr refl))
-      (λ _. inl refl))
+    (λ _. when_holds P (is_none (held a.psi w) && is_accept kept.message.body) w (say_frame a.psi kept.message w) (λ _. inl refl) (λ _. inr refl))
+    (λ _. inl refl))
     (λ newer. let no_way : true ≡ false = sym (older_or_same (is_challenge kept.challenge a.challenge) a.pti kept.message.pti same number) ∙ newer in cc)
 
 requested_again : (a : Asking) (kind : Option ℕ) (dnn : Option (List ℕ)) (slice : Option Slice) (kept : Answer) (w : Working)
@@ -62,11 +62,11 @@ requested_again a kind dnn slice kept w there same number =
     (per (cell a.psi w).answer (newly_requested a kind dnn slice w) (λ (k : Answer). compared a k (newly_requested a kind dnn slice) w))
     (λ _. inl refl)
     (λ _. per_holds P (cell a.psi w).answer (newly_requested a kind dnn slice w)
-      (λ (k : Answer). compared a k (newly_requested a kind dnn slice) w)
-      (λ none. let no_way : None ≡ Some kept = sym none ∙ there in cc)
-      (λ x some. let is : x ≡ kept = cc in
-        let Q : Answer → Type 0 = λ k. P (compared a k (newly_requested a kind dnn slice) w) in
-        subst Q (sym is) (compared_again a kept (newly_requested a kind dnn slice) w same number)))
+    (λ (k : Answer). compared a k (newly_requested a kind dnn slice) w)
+    (λ none. let no_way : None ≡ Some kept = sym none ∙ there in cc)
+    (λ x some. let is : x ≡ kept = cc in
+    let Q : Answer → Type 0 = λ k. P (compared a k (newly_requested a kind dnn slice) w) in
+    subst Q (sym is) (compared_again a kept (newly_requested a kind dnn slice) w same number)))
 
 delivered_again : (c : Carried) (pti : ℕ) (octets : List ℕ) (m : PduSessionEstablishmentRequest) (kept : Answer) (w : Working)
     → sm_in octets ≡ Ok (frame c.psi pti (sm.PduSessionEstablishmentRequest m)) → (cell c.psi w).answer ≡ Some kept
@@ -78,7 +78,7 @@ delivered_again c pti octets m kept w spells there same number =
     let Q : Result SmFrame SmRefusal → Type 0 = λ r. P (read c r octets w) in
     when_holds P (slice_index_or octets 1 0 == c.psi) (read c (sm_in octets) octets w) w
     (λ _. subst Q (sym spells)
-      (requested_again (record { psi = c.psi; pti = pti; challenge = c.challenge }) m.session_type c.dnn c.slice kept w there same number))
+    (requested_again (record { psi = c.psi; pti = pti; challenge = c.challenge }) m.session_type c.dnn c.slice kept w there same number))
     (λ _. inl refl)
 
 pub repeated_requests : RepeatedRequestsMakeNoSession
@@ -96,7 +96,7 @@ settling_refuses psi ops ambr h last w there settling =
     (λ (x : Held). modify_in x.phase ops ambr psi x.session w)
     (λ none. let no_way : None ≡ Some h = sym none ∙ there in cc)
     (λ x some. let is : x.phase ≡ Settling last = cc in
-      ap (λ phase. modify_in phase ops ambr psi x.session w) is)
+    ap (λ phase. modify_in phase ops ambr psi x.session w) is)
 
 settling_stays : (rules : Option (List ℕ)) (psi pti : ℕ) (h : Held) (last : LastCommand) (w : Working) → held psi w ≡ Some h
     → h.phase ≡ Settling last → (modification_requested rules psi pti w).smf ≡ w.smf
@@ -105,13 +105,13 @@ settling_stays rules psi pti h last w there settling =
     let P : Working → Type 0 = λ v. v.smf ≡ w.smf in
     when_holds P (is_no_transaction pti) w
     (per (held psi w) (modification_rejected psi pti cause.INVALID_PDU_SESSION_IDENTITY w)
-      (λ (x : Held). modification_requested_in x.phase rules psi pti x.session w))
+    (λ (x : Held). modification_requested_in x.phase rules psi pti x.session w))
     (λ _. refl)
     (λ _. per_holds P (held psi w) (modification_rejected psi pti cause.INVALID_PDU_SESSION_IDENTITY w)
-      (λ (x : Held). modification_requested_in x.phase rules psi pti x.session w)
-      (λ none. refl)
-      (λ x some. let is : x.phase ≡ Settling last = cc in
-        ap (λ phase. (modification_requested_in phase rules psi pti x.session w).smf) is))
+    (λ (x : Held). modification_requested_in x.phase rules psi pti x.session w)
+    (λ none. refl)
+    (λ x some. let is : x.phase ≡ Settling last = cc in
+    ap (λ phase. (modification_requested_in phase rules psi pti x.session w).smf) is))
 
 delivered_stays : (c : Carried) (pti : ℕ) (octets : List ℕ) (m : PduSessionModificationRequest) (h : Held) (last : LastCommand) (w : Working)
     → sm_in octets ≡ Ok (frame c.psi pti (sm.PduSessionModificationRequest m)) → held c.psi w ≡ Some h → h.phase ≡ Settling last
@@ -125,7 +125,8 @@ delivered_stays c pti octets m h last w spells there settling =
 
 pub settling_sessions : SettlingSessionsTakeNoModification
 unfolding worked
-settling_sessions smf now psi supi h last there settling =
-    ((λ ops ambr. ap finished (settling_refuses psi ops ambr h last (started smf now supi) there settling)),
-    (λ pti challenge dnn slice octets m spells.
-      delivered_stays (record { psi = psi; challenge = challenge; dnn = dnn; slice = slice }) pti octets m h last (started smf now supi) spells there settling))
+settling_sessions smf now psi supi h last there settling = (
+  (λ ops ambr. ap finished (settling_refuses psi ops ambr h last (started smf now supi) there settling)),
+  (λ pti challenge dnn slice octets m spells.
+      delivered_stays (record { psi = psi; challenge = challenge; dnn = dnn; slice = slice }) pti octets m h last (started smf now supi) spells there settling),
+)

@@ -143,7 +143,7 @@ accepted_with a asked taking w = accepted a asked taking.0 (with_pools taking.1 
 abbrev pub addressed : Asking → Asked → ℕ → Working → Working
 addressed a asked kind w =
     per (take_of kind w.smf.pools) (refused a cause.INSUFFICIENT_RESOURCES w)
-      (λ (taking : Address × PoolsParts). accepted_with a asked taking w)
+    (λ (taking : Address × PoolsParts). accepted_with a asked taking w)
 
 abbrev pub by_kind : Asking → Asked → Result ℕ ℕ → Working → Working
 by_kind a asked (Ok kind) w = addressed a asked kind w
@@ -166,7 +166,7 @@ named kind dnn slice w =
 abbrev pub named_by : Option ℕ → Option (List ℕ) → Option Slice → Working → Result Asked ℕ
 named_by kind dnn slice w =
     per dnn (Err cause.MISSING_OR_UNKNOWN_DNN) (λ (name : List ℕ).
-      per slice (Err cause.MISSING_OR_UNKNOWN_DNN) (λ (s : Slice). named kind name s w))
+    per slice (Err cause.MISSING_OR_UNKNOWN_DNN) (λ (s : Slice). named kind name s w))
 
 unfoldable pub asked_for : Option ℕ → Option (List ℕ) → Option Slice → Working → Result Asked ℕ
 asked_for kind dnn slice w =
@@ -201,4 +201,4 @@ unfoldable pub establishment_requested : Asking → Option ℕ → Option (List 
 establishment_requested a kind dnn slice w =
     when is_no_transaction a.pti then w
     else per (cell a.psi w).answer (newly_requested a kind dnn slice w)
-      (λ (kept : Answer). compared a kept (newly_requested a kind dnn slice) w)
+    (λ (kept : Answer). compared a kept (newly_requested a kind dnn slice) w)

@@ -49,8 +49,8 @@ SettlingSessionsTakeNoModification =
     → h.phase ≡ Settling last
     → ((ops : List Operation) (ambr : Option Ambr) → step_of smf now supi (Modify psi ops ambr) ≡ Err (refusals.Settling last.sendings))
     × ((pti : ℕ) (challenge : Challenge) (dnn : Option (List ℕ)) (slice : Option Slice) (octets : List ℕ) (m : PduSessionModificationRequest)
-      → sm_in octets ≡ Ok (frame psi pti (sm.PduSessionModificationRequest m))
-      → IfOk (step_of smf now supi (Frame psi challenge dnn slice octets)) (λ s. s.smf ≡ smf))
+    → sm_in octets ≡ Ok (frame psi pti (sm.PduSessionModificationRequest m))
+    → IfOk (step_of smf now supi (Frame psi challenge dnn slice octets)) (λ s. s.smf ≡ smf))
 
 -- what an input may change: what is kept under an identity; what the AMF asks concerns all of them
 abbrev pub concerns : SmfInput → ℕ → Bool
@@ -80,5 +80,5 @@ names_one (Release psi) = is_psi psi
 abbrev pub OthersStay : Type 0
 OthersStay =
     (smf : SmfState) (now : ℕ) (supi : List ℕ) (input : SmfInput) → names_one input ≡ true → IfOk (step_of smf now supi input) (λ s.
-      ((other : List ℕ) (q : ℕ) → bytes_eq supi other ≡ false → cell_of other q s.smf ≡ cell_of other q smf)
-      × ((q : ℕ) → is_psi q ≡ true → concerns input q ≡ false → cell_of supi q s.smf ≡ cell_of supi q smf))
+    ((other : List ℕ) (q : ℕ) → bytes_eq supi other ≡ false → cell_of other q s.smf ≡ cell_of other q smf)
+    × ((q : ℕ) → is_psi q ≡ true → concerns input q ≡ false → cell_of supi q s.smf ≡ cell_of supi q smf))

@@ -73,7 +73,7 @@ asked_by (Err at) last psi pti session w = modification_rejected psi pti cause.S
 unfoldable pub requested_in_active : Option (List ℕ) → Option LastCommand → ℕ → ℕ → SessionValues → Working → Working
 requested_in_active rules last psi pti session w =
     per rules (modification_rejected psi pti cause.SEMANTIC_ERROR_IN_THE_QOS_OPERATION w)
-      (λ (octets : List ℕ). asked_by (ops_in octets) last psi pti session w)
+    (λ (octets : List ℕ). asked_by (ops_in octets) last psi pti session w)
 
 -- In Modifying and Releasing it is ignored: the network's command goes on (clause 6.4.2.6). A session in Settling takes no modification.
 abbrev pub modification_requested_in : Phase → Option (List ℕ) → ℕ → ℕ → SessionValues → Working → Working
@@ -86,4 +86,4 @@ unfoldable pub modification_requested : Option (List ℕ) → ℕ → ℕ → Wo
 modification_requested rules psi pti w =
     when is_no_transaction pti then w
     else per (held psi w) (modification_rejected psi pti cause.INVALID_PDU_SESSION_IDENTITY w)
-      (λ (h : Held). modification_requested_in h.phase rules psi pti h.session w)
+    (λ (h : Held). modification_requested_in h.phase rules psi pti h.session w)

@@ -56,4 +56,4 @@ unfoldable pub release_requested : ℕ → ℕ → Working → Working
 release_requested psi pti w =
     when is_no_transaction pti then w
     else per (held psi w) (release_rejected psi pti cause.INVALID_PDU_SESSION_IDENTITY w)
-      (λ (h : Held). release_requested_in h.phase psi pti h.session w)
+    (λ (h : Held). release_requested_in h.phase psi pti h.session w)

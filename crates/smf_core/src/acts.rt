@@ -11,17 +11,11 @@ use std::marker::Model;
 #[derive(Drop)]
 pub enum Act {
     /// A message goes down to the handset.
-    Down {
-        psi: Psi,
-        message: KeptMessage,
-    },
+    Down { psi: Psi, message: KeptMessage },
     /// The AMF is to run a security mode procedure.
     Fence,
     /// A timer is started.
-    Start {
-        id: TimerId,
-        at: Moment,
-    },
+    Start { id: TimerId, at: Moment },
     /// A timer is stopped.
     Stop(TimerId),
 }

@@ -38,11 +38,7 @@ fn session_after(session: Session, rules: Rules, ambr: Ambr) -> Session
 impl<'a> Work<'a> {
     // The session and the modification whose command is open, where the transaction is that of the command.
     #[tactic(auto, unfolding(crate::specs::Answers::modification_of, nas_base::specs::Branches::per, nas_base::specs::Branches::chosen))]
-    fn modification_of(
-        &self,
-        psi: Psi,
-        pti: u8,
-    ) -> Result<Option<(Session, Modification)>, Memory>
+    fn modification_of(&self, psi: Psi, pti: u8) -> Result<Option<(Session, Modification)>, Memory>
         ensures { IfOk result (λ found. found ≡ modification_of psi pti self.now.work) }
     {
         let Some(held) = self.held(psi) else {
@@ -62,12 +58,7 @@ impl<'a> Work<'a> {
 
     // The command that was open is answered, and the session is this.
     #[tactic(auto, unfolding(crate::specs::Answers::settled, nas_base::specs::Branches::chosen))]
-    fn settled(
-        &mut self,
-        session: Session,
-        command: Command,
-        psi: Psi,
-    ) -> Result<(), Memory>
+    fn settled(&mut self, session: Session, command: Command, psi: Psi) -> Result<(), Memory>
         ensures { OnOk result (self.new ≡ by (settled session command psi) self.old) }
     {
         self.stop(command.timer)?;

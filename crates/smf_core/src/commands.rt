@@ -26,12 +26,7 @@ pub fn unrefused(done: Result<(), Memory>) -> Result<(), SmfRefusal>
 impl<'a> Work<'a> {
     /// The command to modify a session.
     #[tactic(auto, unfolding(crate::specs::Commands::modify, nas_base::specs::Branches::per))]
-    pub fn modify(
-        &mut self,
-        psi: Psi,
-        ops: &RuleOps,
-        ambr: Option<Ambr>,
-    ) -> Result<(), SmfRefusal>
+    pub fn modify(&mut self, psi: Psi, ops: &RuleOps, ambr: Option<Ambr>) -> Result<(), SmfRefusal>
         ensures { Works self.old self.new result (modify psi ops.now ambr self.old.work) }
     {
         let Some(held) = self.held(psi) else {
@@ -122,19 +117,14 @@ impl<'a> Work<'a> {
     }
 
     // The same of a session.
-    fn release_in(
-        &mut self,
-        phase: Phase,
-        psi: Psi,
-        session: Session,
-    ) -> Result<(), SmfRefusal>
+    fn release_in(&mut self, phase: Phase, psi: Psi, session: Session) -> Result<(), SmfRefusal>
         ensures { Works self.old self.new result (release_in phase psi session self.old.work) }
     {
         let timer = phase.timer();
         match phase {
-            Phase::Active(_) | Phase::Modifying(_) | Phase::Settling(_) => unrefused(
-                self.releasing(psi, 0, timer, session),
-            ),
+            Phase::Active(_) | Phase::Modifying(_) | Phase::Settling(_) => unrefused(self.releasing(
+                psi, 0, timer, session,
+            )),
             Phase::Releasing(_) => Err(SmfRefusal::WrongState {
                 state: SmfWord::Releasing,
             }),

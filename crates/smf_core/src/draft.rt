@@ -215,17 +215,17 @@ impl<'a> Work<'a> {
     }
 
     /// One more cell that changed.
-fn push_cell(cells: &mut Vec<ChangedCell>, psi: Psi, cell: Cell) -> Result<(), Memory>
-    ensures ok { OnOk result (cells.new.items ≡ cells.old.items ++ record { psi = psi; cell = cell } ∷ []) }
-    ensures err { OnErr result (cells.new.items ≡ cells.old.items) }
-{
-    match cells.push(ChangedCell { psi, cell }) {
-        Ok(()) => Ok(()),
-        Err(_) => Err(Memory),
+    fn push_cell(cells: &mut Vec<ChangedCell>, psi: Psi, cell: Cell) -> Result<(), Memory>
+        ensures ok { OnOk result (cells.new.items ≡ cells.old.items ++ record { psi = psi; cell = cell } ∷ []) }
+        ensures err { OnErr result (cells.new.items ≡ cells.old.items) }
+    {
+        match cells.push(ChangedCell { psi, cell }) {
+            Ok(()) => Ok(()),
+            Err(_) => Err(Memory),
+        }
     }
-}
 
-// Takes the least free address, where there is one: of IPv4 (1), of IPv6 (2), or one of each.
+    // Takes the least free address, where there is one: of IPv4 (1), of IPv6 (2), or one of each.
     pub fn take(&mut self, kind: u8) -> Result<Option<Address>, Memory>
         ensures { IfOk result (λ address. Takes kind address self.old self.new) }
     {

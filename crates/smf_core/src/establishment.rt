@@ -85,7 +85,10 @@ fn default_rules(alloc: Global) -> Result<Rules, Memory>
 fn default_rules_octets(alloc: Global) -> Result<Octets, Memory>
     ensures { IfOk result (λ octets. octets ≡ default_rules_octets) }
 {
-    match Octets::copy(alloc, &[0x01, 0x00, 0x06, 0x31, 0x31, 0x01, 0x01, 0xff, 0x01]) {
+    match Octets::copy(
+        alloc,
+        &[0x01, 0x00, 0x06, 0x31, 0x31, 0x01, 0x01, 0xff, 0x01],
+    ) {
         Ok(octets) => Ok(octets),
         Err(_) => Err(Memory),
     }
@@ -183,7 +186,10 @@ fn is_same_sd(a: &Option<[u8; 3]>, b: &Option<[u8; 3]>) -> bool
 fn has_slice(slice: &Slice, slices: &Nssai) -> bool
     ensures { result ≡ has_slice slice.now slices.now }
 {
-    slices.as_slice().iter().any(|other| is_same_slice(slice, other))
+    slices
+        .as_slice()
+        .iter()
+        .any(|other| is_same_slice(slice, other))
 }
 
 // The data network that a request names, or else the first.
@@ -213,7 +219,12 @@ fn named_slice<'b>(slice: &'b Option<Slice>, slices: &'b Nssai) -> Option<&'b Sl
 }
 
 // A new session.
-fn new_session(alloc: Global, asked: &Asked, address: Address, ambr: Ambr) -> Result<Session, Memory>
+fn new_session(
+    alloc: Global,
+    asked: &Asked,
+    address: Address,
+    ambr: Ambr,
+) -> Result<Session, Memory>
     ensures { IfOk result (λ session. session ≡ new_session asked.now address ambr) }
 {
     Ok(Session {

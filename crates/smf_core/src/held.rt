@@ -93,10 +93,7 @@ impl Modification {
 }
 
 // An equal value, where there is one, or `Memory`.
-fn copied_last(
-    alloc: Global,
-    last: &Option<LastCommand>,
-) -> Result<Option<LastCommand>, Memory>
+fn copied_last(alloc: Global, last: &Option<LastCommand>) -> Result<Option<LastCommand>, Memory>
     ensures { IfOk result (λ copy. copy ≡ last.now) }
 {
     match last {

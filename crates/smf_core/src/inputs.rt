@@ -33,7 +33,9 @@ pub enum SmfInput {
         ambr: Option<Ambr>,
     },
     /// The command to release a session (TS 24.501 clause 6.3.3).
-    Release { psi: Psi },
+    Release {
+        psi: Psi,
+    },
 }
 
 /// Why a step was refused.

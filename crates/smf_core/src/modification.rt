@@ -231,7 +231,9 @@ impl<'a> Work<'a> {
         match read_ops(self.alloc(), octets.as_slice()) {
             Ok(ops) => self.asked_by(&ops, last, psi, pti, session),
             Err(OpsRefusal::Syntax { at: _ }) => self.modification_rejected(
-                psi, pti, SYNTACTICAL_ERROR_IN_THE_QOS_OPERATION,
+                psi,
+                pti,
+                SYNTACTICAL_ERROR_IN_THE_QOS_OPERATION,
             ),
             Err(OpsRefusal::Memory) => Err(Memory),
         }
@@ -254,7 +256,9 @@ impl<'a> Work<'a> {
                 self.modification_asked(m, last, psi, pti, session)
             }
             Err(ApplyRefusal::Qos(_)) => self.modification_rejected(
-                psi, pti, SEMANTIC_ERROR_IN_THE_QOS_OPERATION,
+                psi,
+                pti,
+                SEMANTIC_ERROR_IN_THE_QOS_OPERATION,
             ),
             Err(ApplyRefusal::Memory) => Err(Memory),
         }

@@ -10,17 +10,11 @@ use std::marker::Model;
 #[derive(Drop)]
 pub enum SmfOut {
     /// A 5GSM message goes down to the handset.
-    Down {
-        psi: Psi,
-        frame: Octets,
-    },
+    Down { psi: Psi, frame: Octets },
     /// The AMF is to run a security mode procedure.
     Fence,
     /// A timer is started.
-    Start {
-        id: TimerId,
-        at: Moment,
-    },
+    Start { id: TimerId, at: Moment },
     /// A timer is stopped.
     Stop(TimerId),
 }

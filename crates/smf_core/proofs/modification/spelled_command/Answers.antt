@@ -8,4 +8,4 @@ pub of-requires : goal.of-requires
 of-requires c =
     rw (c.in_ok-rules.ensures)
     (modification_command_fits c.args.psi c.args.pti c.args.ambr c.args.ops.now
-      (ops_short c.args.ops.now (rw (← c.as_slice-ops.ensures.value) c.as_slice-ops.ensures.ops)))
+    (ops_short c.args.ops.now (rw (← c.as_slice-ops.ensures.value) c.as_slice-ops.ensures.ops)))

@@ -10,6 +10,7 @@ loop-place-preserved c =
     let is = c.index-subscribers-place.is in
     let told = c.is_of.ensures in
     let not_its = c.if-is_of.false in
-    let other : bytes_eq x.supi c.args.supi.now ≡ false = grind (arith, is, told, not_its) in
-    (put_there c.loop-place.subscribers c.loop-place.place x ∙ c.loop-place.invariant.0,
-    none_more_there c.loop-place.place c.args.supi.now c.loop-place.subscribers x is within c.loop-place.invariant.1 other)
+    let other : bytes_eq x.supi c.args.supi.now ≡ false = grind (arith, is, told, not_its) in (
+      put_there c.loop-place.subscribers c.loop-place.place x ∙ c.loop-place.invariant.0,
+      none_more_there c.loop-place.place c.args.supi.now c.loop-place.subscribers x is within c.loop-place.invariant.1 other,
+    )

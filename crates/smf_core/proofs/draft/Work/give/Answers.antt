@@ -7,4 +7,4 @@ pub returns : goal.returns
 returns c =
     rw (← c.self.view_is)
     (give_seen c.self.inside.supi.now c.self.inside.moment c.self.inside.acts c.self.inside.before.now c.self.inside.cells.items c.self.inside.pools c.give_to.new.pools c.args.address.now
-      (c.give_to.ensures ∙ ap (freed c.args.address.now) (c.in_ok-pools.ensures ∙ sym (ap (λ v. v.work.smf.pools) c.self.view_is))))
+    (c.give_to.ensures ∙ ap (freed c.args.address.now) (c.in_ok-pools.ensures ∙ sym (ap (λ v. v.work.smf.pools) c.self.view_is))))
