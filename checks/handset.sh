@@ -1,8 +1,8 @@
 #!/bin/sh
 # Compares a handset, through the program machine_probe, with the executable model that NAS_MODEL names, step by step on random walks:
-# commands, messages that a network could send, right and wrong, plain and in frames, changed octets, moments with the timers that
-# expire by then, lost connections and restarts. A difference ends with status 1; where the program isn't built, no model is there
-# or python3 is missing, nothing is compared, with status 0.
+# commands, messages that a network could send, right and wrong, plain and in frames, among them new 5G-GUTIs without a registration,
+# changed octets, moments with the timers that expire by then, lost connections and restarts. A difference ends with status 1; where
+# the program isn't built, no model is there or python3 is missing, nothing is compared, with status 0.
 #
 # usage: checks/handset.sh [WALKS [SEED]]
 cd "$(dirname "$0")/.." || exit 1

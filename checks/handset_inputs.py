@@ -5,11 +5,12 @@ from frame_inputs import CAPABILITIES, CAUSES, LONGEST_MESSAGE, Frames
 GUTIS = ["f200f11002004000000001", "f200f1100200400000abcd", "f221436520ff123456789a"]
 NO_GUTIS = ["f4004000000001", "0100f110f0ff00000000000010", "f200f110020040000000", ""]
 SESSIONS = ["50022000", "5002feff", "50020000", "50032000ff", "500120", "50020100"]
+INDICATIONS = ["", "d0", "d1", "d1", "d1", "d2", "d3"]
 EXTRAS = ["", "", "", "a1", "220101", "7b000100", "3f02aabb", "50", "36", "01ff", "5e0106", "540101"]
 
 # Message types and what follows: messages that a handset answers or takes, those that end something, those that a network doesn't send
 # or that a handset takes nothing from, and those with wrong parts or of no known type. The cause is cc.
-ASKING = ["5b01", "5b01", "5b01", "5b02", "5b09", "5b03", "5b00", "5b11", "4e", "4e50020020", "54", "54d1", "54d177000bf200f11002004000000001"]
+ASKING = ["5b01", "5b01", "5b01", "5b02", "5b09", "5b03", "5b00", "5b11", "4e", "4e50020020", "54"]
 ENDING = ["44cc", "44cc", "4403", "4409", "440a", "4dcc", "4dcc", "4d09", "4d0a", "46", "4700", "4701", "4709", "4704", "470158cc", "58"]
 OTHERS = ["64cc", "43", "48", "55", "57", "59cc", "5e", "5fcc", "4179000101", "4501000101", "4c00000101", "5c000101", "6701000100"]
 WRONG = ["40", "7f", "ff", "42", "44", "47", "4d", "56", "5600", "5b", "5d", "64", "68", "680100", "5c", "572d", "41", "59", ""]
@@ -67,14 +68,28 @@ class Network(Frames):
         head = bytes([0x7E, 0, 0x5D, algs, rng.choice([0, 0, 0, 0x30]) | ksi, len(capability)])
         return head + capability + bytes.fromhex(asked + rng.choice(EXTRAS))
 
+    def name(self):
+        """A 5G-GUTI as an element, another identity there, or nothing."""
+        name = self.rng.choice(GUTIS + ["", ""]) if self.chance(0.85) else self.rng.choice(NO_GUTIS)
+        return "77%04x%s" % (len(name) // 2, name) if name else ""
+
     def accept(self):
         rng = self.rng
         result = rng.choice(["0101", "0101", "0109", "01ff", "00", "020101"]) if self.chance(0.2) else "0101"
-        name = rng.choice(GUTIS + ["", ""]) if self.chance(0.85) else rng.choice(NO_GUTIS)
-        elements = ["77%04x%s" % (len(name) // 2, name) if name else "", "54070000f110000001", "15020101", rng.choice(SESSIONS + [""] * 4), "5e0106"]
+        elements = [self.name(), "54070000f110000001", "15020101", rng.choice(SESSIONS + [""] * 4), "5e0106"]
         if self.chance(0.15):
             rng.shuffle(elements)
         return bytes.fromhex("7e0042" + result + "".join(elements) + rng.choice(EXTRAS))
+
+    def update(self):
+        """A CONFIGURATION UPDATE COMMAND, with a 5G-GUTI or without one, that asks for its COMPLETE or doesn't."""
+        rng = self.rng
+        elements = [rng.choice(INDICATIONS), self.name(), rng.choice(["", "", "", "4680", "4722101112131480"])]
+        if self.chance(0.15):
+            rng.shuffle(elements)
+        if self.chance(0.1):
+            elements.append(rng.choice(INDICATIONS) + self.name())
+        return bytes.fromhex("7e0054" + "".join(elements) + rng.choice(EXTRAS))
 
     def transport(self):
         rng = self.rng
@@ -93,7 +108,7 @@ class Network(Frames):
         kind = rng.choice([ASKING, ENDING, OTHERS, WRONG, None, None])
         if kind is not None:
             return bytes.fromhex("7e00" + rng.choice(kind).replace("cc", f"{cause:02x}"))
-        makers = [self.challenge, self.accept, self.transport, lambda: self.command(ksi)]
+        makers = [self.challenge, self.accept, self.update, self.transport, lambda: self.command(ksi)]
         return rng.choice(makers)()
 
     # frames
@@ -162,11 +177,13 @@ class Network(Frames):
             return self.under_current(bytes([0x7E, 0, 0x46]))
         if handset.pending:
             return self.command_frame()
-        message = self.rng.choice([self.challenge, self.transport, self.transport, self.accept])()
+        message = self.rng.choice([self.challenge, self.transport, self.transport, self.accept, self.update])()
         return self.under_current(message)
 
     def string(self):
         """What reaches the handset next."""
+        if self.handset.current and self.chance(0.08):
+            return self.under_current(self.update())
         made = self.next_in_line() if self.chance(0.6) else None
         return self.any_string() if made is None else made
 

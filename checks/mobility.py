@@ -17,7 +17,7 @@ from probe import text
 from walks import Answered
 
 OWNERS = {"T3510": "Registering", "T3517": "Serving", "T3521": "Deregistering"}
-OF_THE_NETWORK = ["T3522", "T3550", "T3560"]
+OF_THE_NETWORK = ["T3522", "T3550", "T3555", "T3560"]
 
 
 class MobilityWalk(HandsetWalk):

@@ -156,7 +156,8 @@ def configuration(r, rate):
     if r.random() < 0.3:
         out.append(timers(r, w))
     out += [subscriber(r, w if count < 4 else Wrongs(r, 0), plmn, s, keys if s == own else Keys(r)) for s in known]
-    out += [handset(r, w, own, keys, capability) for _ in range(1 if not w.now() else r.choice((0, 2)))]
+    # a model may run more than one handset, 16 at most, which the program doesn't yet; neither runs 17
+    out += [handset(r, w, own, keys, capability) for _ in range(1 if not w.now() else r.choice((0, 17)))]
     if r.random() < 0.1:
         r.shuffle(out)
     if rate and r.random() < 0.02:

@@ -18,6 +18,9 @@ from network_inputs import Handsets
 from probe import text
 from walks import Answered, Walk, compare
 
+# Commands to the network, and the refusals that tell a 5G-TMSI.
+ORDERS = ["authenticate", "deregister", "update", "update"]
+TMSI_REFUSALS = {"Uncompleted": "uncompleted", "Updated": "updated", "TmsiSpent": "tmsi_spent"}
 SENSIBLE = ["mobility", "mobility", "periodic", "periodic", "service", "service", "service", "deregister", "switch-off"]
 
 
@@ -98,7 +101,9 @@ class NetworkWalk(Walk):
             return "unknown_supi"
         if refusal.name == "SqnSpent":
             return f"sqn_spent:{refusal.args[1]:012x}"
-        return f"wrong_state:{refusal.args[1]}"
+        if refusal.name == "WrongState":
+            return f"wrong_state:{refusal.args[1]}"
+        return f"{TMSI_REFUSALS[refusal.name]}:{refusal.args[1]:08x}"
 
     def draw_rand(self):
         if self.chance(0.3):
@@ -116,7 +121,7 @@ class NetworkWalk(Walk):
 
     def any_command(self):
         supi = self.rng.choice(self.phones).handset.cfg.supi
-        self.command(self.rng.choice(["authenticate", "deregister"]), supi)
+        self.command(self.rng.choice(ORDERS), supi)
 
     def tick(self):
         self.tell(self.moment(self.network))
@@ -208,7 +213,7 @@ class NetworkWalk(Walk):
             return self.come_up(phone)
         record = self.network.subs.get(phone.handset.cfg.supi)
         if record and record.word == "Registered" and record.proc is None and self.chance(0.3):
-            return self.command(self.rng.choice(["authenticate", "deregister"]), record.supi)
+            return self.command(self.rng.choice(ORDERS), record.supi)
         if phone.handset.word in ("Deregistered", "Registered") and self.chance(0.7):
             return self.commanded(phone)
         if phone.handset.timers and self.chance(0.4):

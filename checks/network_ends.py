@@ -4,7 +4,7 @@ from network_inputs import LAST_SQN
 from probe import text
 
 SLICES = ["01", "0101", "02010203", "ff", "0001", "01aabbcc", "0102030405060708"]
-TIMERS = ("t3522", "t3550", "t3560")
+TIMERS = ("t3522", "t3550", "t3555", "t3560")
 
 
 class Phone:

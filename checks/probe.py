@@ -1,4 +1,4 @@
-"""Hands lines to nas_probe or machine_probe, and compares each answer with the one that is wanted."""
+"""Hands lines to a program that answers each, such as nas_probe, and compares each answer with the one that is wanted."""
 
 import os
 import random
@@ -7,12 +7,12 @@ import sys
 
 
 def text(octets):
-    """The octets as both programs read and write them."""
+    """The octets as these programs read and write them."""
     return octets.hex() or "-"
 
 
 def answered(answer):
-    """An answer as both programs write it: octets as text, words as they are."""
+    """An answer as these programs write it: octets as text, words as they are."""
     return answer if isinstance(answer, str) else text(answer)
 
 

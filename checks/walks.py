@@ -1,4 +1,4 @@
-"""Random walks of an end beside an executable model, and what machine_probe answers to them."""
+"""Random walks of an end beside an executable model, and what machine_probe or session_probe answers to them."""
 import os
 import random
 import subprocess
@@ -10,7 +10,7 @@ LAST_MOMENT = 10**15
 
 
 class Walk:
-    """A walk, made at random in step with the model: the words for machine_probe, and what each step is to answer. Each kind of walk
+    """A walk, made at random in step with the model: the words for the program, and what each step is to answer. Each kind of walk
     has its CALL, and how it goes on (`go`)."""
 
     def __init__(self, rng):
@@ -75,7 +75,7 @@ class Walk:
 
 
 class Answered:
-    """What machine_probe answered so far."""
+    """What the program answered so far."""
 
     def __init__(self):
         self.seen = None
@@ -118,8 +118,8 @@ def differing(walk, answered, answer):
 
 
 def compare(name, draw, answered, count):
-    """Draws walks (`draw(rng)`), hands them to machine_probe, and compares each answer. The program's words say where model and
-    machine_probe are, and how many walks of which seed. Answers the exit status."""
+    """Draws walks (`draw(rng)`), hands them to a program, and compares each answer. The words of the command line say where model and
+    program are, and how many walks of which seed. Answers the exit status."""
     model_path, probe = sys.argv[1:3]
     count = int(sys.argv[3]) if len(sys.argv) > 3 else count
     seed = int(sys.argv[4]) if len(sys.argv) > 4 else 1

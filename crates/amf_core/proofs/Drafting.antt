@@ -1,9 +1,9 @@
 -- What the changes of a step make of what was kept: the record that changed last stands in the place of that of its key.
-use Rattle.std.proofs.Common.{◌≡◌, refl, ◌∙◌, ap, Bool, true, false, List, [], ◌∷◌, Some, if◌then◌else◌, arith}
+use Rattle.std.proofs.Common.{◌≡◌, refl, ◌∙◌, ap, ℕ, Bool, true, false, ◌==◌, List, [], ◌∷◌, Some, option_map, if◌then◌else◌, arith}
 use Rattle.std.proofs.lemmas.Bool.Decides.{nat_tests}
 use Rattle.std.proofs.lemmas.Slice.Eq.{bytes_eq-Decides}
-use Rattle.amf_core.specs.Keyed.{all_current, current, newest, or_kept, put_in}
-use Rattle.amf_core.specs.State.{is_same_link, is_same_subscriber}
+use Rattle.amf_core.specs.Keyed.{all_current, current, found, newest, or_kept, put_in}
+use Rattle.amf_core.specs.State.{has_number, has_supi, is_same_link, is_same_subscriber}
 use Rattle.amf_core.specs.declared.link.Link.{Link}
 use Rattle.amf_core.specs.declared.subscriber.Record.{Record}
 
@@ -53,3 +53,39 @@ subscriber_put s ys xs = all_put is_same_subscriber subscribers_keep s ys xs
 pub link_put : (l : Link) (ys xs : List Link)
     → all_current is_same_link (l ∷ ys) xs ≡ put_in is_same_link l (all_current is_same_link ys xs)
 link_put l ys xs = all_put is_same_link links_keep l ys xs
+
+-- a test that looks at the key alone finds the same record as before, as it is by now
+found_by_now : {A : Type 0} (same : A → A → Bool) (is : A → Bool) (ys xs : List A) → ((x : A) → is (current same ys x) ≡ is x)
+    → found is (all_current same ys xs) ≡ option_map (current same ys) (found is xs)
+found_by_now same is ys [] keeps = refl
+found_by_now {A} same is ys (x ∷ xs) keeps =
+    ap (λ (test : Bool). if test then Some (current same ys x) else found is (all_current same ys xs)) (keeps x)
+    ∙ by_test (found_by_now same is ys xs keeps) (is x)
+  where
+    by_test : found is (all_current same ys xs) ≡ option_map (current same ys) (found is xs)
+        → (test : Bool) → (if test then Some (current same ys x) else found is (all_current same ys xs))
+        ≡ option_map (current same ys) (if test then Some x else found is xs)
+    by_test rest true = refl
+    by_test rest false = rest
+
+-- a change has the key of what it is put in the place of
+test_stays : {A : Type 0} (same : A → A → Bool) (is : A → Bool) → ((x y : A) → same y x ≡ true → is y ≡ is x) → (ys : List A) (x : A)
+    → is (current same ys x) ≡ is x
+test_stays same is keeps [] x = refl
+test_stays same is keeps (y ∷ ys) x = by_key (test_stays same is keeps ys x) (same y x) refl
+  where
+    by_key : is (current same ys x) ≡ is x → (own : Bool) → same y x ≡ own → is (or_kept (if own then Some y else newest same ys x) x) ≡ is x
+    by_key rest true e = keeps x y e
+    by_key rest false e = rest
+
+pub subscriber_by_now : (supi : List ℕ) (ys xs : List Record)
+    → found (has_supi supi) (all_current is_same_subscriber ys xs) ≡ option_map (current is_same_subscriber ys) (found (has_supi supi) xs)
+subscriber_by_now supi ys xs =
+    found_by_now is_same_subscriber (has_supi supi) ys xs
+    (λ x. test_stays is_same_subscriber (has_supi supi) (λ old new e. grind (arith, bytes_eq-Decides old.supi new.supi, e)) ys x)
+
+pub link_by_now : (number : ℕ) (ys xs : List Link)
+    → found (has_number number) (all_current is_same_link ys xs) ≡ option_map (current is_same_link ys) (found (has_number number) xs)
+link_by_now number ys xs =
+    found_by_now is_same_link (has_number number) ys xs
+    (λ x. test_stays is_same_link (has_number number) (λ old new e. grind (arith, nat_tests, e)) ys x)

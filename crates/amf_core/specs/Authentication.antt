@@ -29,10 +29,11 @@ asking_in (Auth a) c = Some (record { challenging = c; auth = a })
 asking_in (Mode context) c = None
 
 unfoldable pub asking_on : ℕ → Procedure → Option Asking
-asking_on number (procedures.Challenging c) = when is_on number c.link then asking_in c.phase c else None
-asking_on number procedures.Idle = None
-asking_on number (procedures.Accepting a) = None
-asking_on number (procedures.Deregistering d) = None
+asking_on link (procedures.Challenging c) = when is_on link c.link then asking_in c.phase c else None
+asking_on link procedures.Idle = None
+asking_on link (procedures.Accepting a) = None
+asking_on link (procedures.Updating u) = None
+asking_on link (procedures.Deregistering d) = None
 
 -- the context of a challenge that was answered: its keys for the chosen algorithms, and counts 0
 abbrev pub made : AuthenticationValues → SecurityContext
@@ -54,18 +55,18 @@ abbrev pub mode_commanded : Asking → Record → Work → Work
 mode_commanded o s w = challenge_put (commanding o) (challenge_open (commanding o) s) w
 
 abbrev pub authentication_rejected : ℕ → Record → Work → Work
-authentication_rejected number s w = answer_for s number mm.AuthenticationReject (ended s w)
+authentication_rejected link s w = answer_for s link mm.AuthenticationReject (ended s w)
 
 abbrev pub is_expected : Option (List ℕ) → AuthenticationValues → Bool
 is_expected res_star a = per res_star false (λ (octets : List ℕ). bytes_eq octets a.res_star)
 
 -- AUTHENTICATION RESPONSE
 abbrev pub answered : AuthenticationResponse → ℕ → Asking → Record → Work → Work
-answered m number o s w =
-    when is_expected m.res_star o.auth then mode_commanded o s w else authentication_rejected number s w
+answered m link o s w =
+    when is_expected m.res_star o.auth then mode_commanded o s w else authentication_rejected link s w
 
 unfoldable pub responded : AuthenticationResponse → ℕ → Record → Work → Work
-responded m number s w = per (asking_on number s.procedure) w (λ (o : Asking). answered m number o s w)
+responded m link s w = per (asking_on link s.procedure) w (λ (o : Asking). answered m link o s w)
 
 -- A challenge takes the place of another, for the same purpose: for a registration on the same link, for a command on the link that the
 -- subscriber has by now.
@@ -89,12 +90,12 @@ resynchronised auts o s w =
 
 -- MAC failure and non-5G authentication unacceptable end the challenge; synch failure and ngKSI already in use are followed by another
 abbrev pub failed_by : AuthenticationFailure → ℕ → Asking → Record → Work → Work
-failed_by m number o s w =
-    when m.cause == cause.MAC_FAILURE || m.cause == cause.NON_5G_AUTHENTICATION_UNACCEPTABLE then authentication_rejected number s w
+failed_by m link o s w =
+    when m.cause == cause.MAC_FAILURE || m.cause == cause.NON_5G_AUTHENTICATION_UNACCEPTABLE then authentication_rejected link s w
     else (when m.cause == cause.SYNCH_FAILURE then per m.auts w (λ (auts : List ℕ). resynchronised auts o s w)
     else (when m.cause == cause.NGKSI_ALREADY_IN_USE then challenged_again o.challenging s w else w))
 
 -- AUTHENTICATION FAILURE
 unfoldable pub authentication_failed : AuthenticationFailure → ℕ → Record → Work → Work
-authentication_failed m number s w =
-    per (asking_on number s.procedure) w (λ (o : Asking). failed_by m number o s w)
+authentication_failed m link s w =
+    per (asking_on link s.procedure) w (λ (o : Asking). failed_by m link o s w)

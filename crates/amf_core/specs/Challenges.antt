@@ -9,7 +9,7 @@ use Rattle.milenage.specs.declared.vector.Vector.{Vector}
 use Rattle.nas_elements.specs.Capability.{has_ea}
 use Rattle.nas_elements.specs.declared.asi.Asi.{Asi}
 use Rattle.nas_security.specs.Contexts.{SecurityContext}
-use Rattle.nas_timers.specs.declared.timer_id.TimerId.TheVariants.{T3522, T3550, T3560}
+use Rattle.nas_timers.specs.declared.timer_id.TimerId.TheVariants.{T3522, T3550, T3555, T3560}
 use Rattle.mm_messages.specs.declared.authentication.AuthenticationRequest.{AuthenticationRequest}
 use Rattle.mm_messages.specs.declared.message.Mm.TheVariants as mm
 use Rattle.mm_messages.specs.declared.security_mode.SecurityModeCommand.{SecurityModeCommand}
@@ -31,6 +31,7 @@ abbrev pub stopped_of : Procedure → Record → Work → Work
 stopped_of procedures.Idle s w = w
 stopped_of (procedures.Challenging c) s w = stop T3560 s w
 stopped_of (procedures.Accepting a) s w = stop T3550 s w
+stopped_of (procedures.Updating u) s w = stop T3555 s w
 stopped_of (procedures.Deregistering d) s w = stop T3522 s w
 
 unfoldable pub stopped : Record → Work → Work
@@ -86,15 +87,15 @@ abbrev pub authentication_request : AuthenticationValues → AuthenticationReque
 authentication_request a = record { ksi = a.ksi; abba = abba; rand = Some a.challenge.rand; autn = Some a.autn }
 
 abbrev pub request_sent : AuthenticationValues → ℕ → Record → Work → Work
-request_sent a number s w =
-    say number (by_link (link_of number w) s.supi) (mm.AuthenticationRequest (authentication_request a)) w
+request_sent a link s w =
+    say link (by_link (link_of link w) s.supi) (mm.AuthenticationRequest (authentication_request a)) w
 
 abbrev pub security_mode_command : SecurityContext → Challenging → Record → SecurityModeCommand
 security_mode_command context c s =
     record { algs = context.algs; ksi = context.ksi; capability = capability_of s; asi = asked_for c.purpose }
 
 abbrev pub phase_sent : Phase → Challenging → Record → Work → Work
-phase_sent (Auth a) c s w = per c.link w (λ (number : ℕ). request_sent a number s w)
+phase_sent (Auth a) c s w = per c.link w (λ (link : ℕ). request_sent a link s w)
 phase_sent (Mode context) c s w =
     say_on c.link (IntegrityProtectedWithNewContext s.supi) (mm.SecurityModeCommand (security_mode_command context c s)) w
 
@@ -103,10 +104,10 @@ challenge_sent c s w = phase_sent c.phase c s w
 
 -- the subscriber is that of the link which it was last challenged on
 abbrev pub claimed_one : ℕ → List ℕ → Work → Work
-claimed_one number supi w = put_link (record (link_of number w) { supi = Some supi }) w
+claimed_one link supi w = put_link (record (link_of link w) { supi = Some supi }) w
 
 abbrev pub claimed : Option ℕ → List ℕ → Work → Work
-claimed link supi w = per link w (λ (number : ℕ). claimed_one number supi w)
+claimed on supi w = per on w (λ (link : ℕ). claimed_one link supi w)
 
 -- a challenge is put, and stands as the subscriber's procedure; T3560 runs
 abbrev pub challenge_put : Challenging → Record → Work → Work
@@ -125,8 +126,8 @@ challenge_begun purpose link v s w = begun_with (authentication (config_of w) v 
 
 -- Where no sequence number is left, none is open. A registration is then rejected.
 abbrev pub challenge_refused : Purpose → Option ℕ → Work → Work
-challenge_refused (Registration request) link w = per link w (λ (number : ℕ). reject number cause.PROTOCOL_ERROR_UNSPECIFIED w)
-challenge_refused Command link w = w
+challenge_refused (Registration request) on w = per on w (λ (link : ℕ). reject link cause.PROTOCOL_ERROR_UNSPECIFIED w)
+challenge_refused Command on w = w
 
 -- the capability that a registration tells, where it tells one
 abbrev pub told : Option (List ℕ) → Record → Record

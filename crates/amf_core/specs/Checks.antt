@@ -1,12 +1,9 @@
 -- Octets that pass the check of a context, and what an AMF notes of it (TS 24.501 clause 4.4.3.3).
-use Rattle.std.specs.Prelude.{ℕ, ◌+◌, true, false, List, Option, Some, None}
+use Rattle.std.specs.Prelude.{ℕ, true, false, List, Option, Some, None}
 use Rattle.nas_base.specs.Branches.{per}
 use Rattle.nas_base.specs.declared.count.Dir.TheVariants.{Up}
 use Rattle.nas_security.specs.Contexts.{SecurityContext}
-use Rattle.nas_security.specs.Counts.{with_next}
-use Rattle.nas_security.specs.Passing.{judged}
-use Rattle.nas_security.specs.declared.verdicts.Verdict.{Verdict}
-use Rattle.nas_security.specs.declared.verdicts.Verdict.TheVariants as verdicts
+use Rattle.mm_entity.specs.Opening.{Opened, opened, with_count}
 use Rattle.amf_core.specs.SecurityMode.{commanding_on}
 use Rattle.amf_core.specs.Work.{Work, link_of, put, put_link, tell}
 use Rattle.amf_core.specs.declared.checks.Check.{Check}
@@ -17,25 +14,6 @@ use Rattle.amf_core.specs.declared.procedures.Procedure.TheVariants as procedure
 use Rattle.amf_core.specs.declared.security_mode.Commanding.{Commanding}
 use Rattle.amf_core.specs.declared.subscriber.Record.{Record}
 
--- the count of octets that passed, and their plain message
-pub record Opened : Type 0 where
-  pub count : ℕ
-  pub message : List ℕ
-
-abbrev pub opened_by : Verdict × List ℕ → Option Opened
-opened_by (verdicts.Passed count header, message) = Some (record { count = count; message = message })
-opened_by (verdicts.Plain, message) = None
-opened_by (verdicts.Malformed at, message) = None
-opened_by (verdicts.Spent next, message) = None
-opened_by (verdicts.Failed want got, message) = None
-
-unfoldable pub opened : SecurityContext → List ℕ → Option Opened
-opened context octets = opened_by (judged context Up octets)
-
--- the context once this count is taken
-abbrev pub with_count : ℕ → SecurityContext → SecurityContext
-with_count count context = with_next context Up (count + 1)
-
 -- what passed, and its plain message
 pub record Passage : Type 0 where
   pub check : Check
@@ -43,39 +21,39 @@ pub record Passage : Type 0 where
 
 -- The link of a message that passed becomes the subscriber's.
 abbrev pub passed_in_use : ℕ → SecurityContext → ℕ → Record → Check
-passed_in_use number context count s = record {
-  subscriber = record s { in_use = Some (with_count count context); link = Some number };
+passed_in_use link context count s = record {
+  subscriber = record s { in_use = Some (with_count context Up count); link = Some link };
   challenge = context.challenge;
   is_pending = false;
   count = count;
 }
 
 unfoldable pub checked_in_use : ℕ → List ℕ → Record → Option Passage
-checked_in_use number octets s =
+checked_in_use link octets s =
     per s.in_use None (λ (context : SecurityContext).
-    per (opened context octets) None (λ (o : Opened). Some (record { check = passed_in_use number context o.count s; message = o.message })))
+    per (opened context Up octets) None (λ (o : Opened). Some (record { check = passed_in_use link context o.count s; message = o.message })))
 
 abbrev pub counted_mode : Commanding → ℕ → Challenging
-counted_mode m count = record m.challenging { phase = Mode (with_count count m.context) }
+counted_mode m count = record m.challenging { phase = Mode (with_count m.context Up count) }
 
 abbrev pub passed_pending : ℕ → Commanding → ℕ → Record → Check
-passed_pending number m count s = record {
-  subscriber = record s { procedure = procedures.Challenging (counted_mode m count); link = Some number };
+passed_pending link m count s = record {
+  subscriber = record s { procedure = procedures.Challenging (counted_mode m count); link = Some link };
   challenge = m.context.challenge;
   is_pending = true;
   count = count;
 }
 
 unfoldable pub checked_pending : ℕ → List ℕ → Record → Option Passage
-checked_pending number octets s =
-    per (commanding_on number s.procedure) None (λ (m : Commanding).
-    per (opened m.context octets) None (λ (o : Opened). Some (record { check = passed_pending number m o.count s; message = o.message })))
+checked_pending link octets s =
+    per (commanding_on link s.procedure) None (λ (m : Commanding).
+    per (opened m.context Up octets) None (λ (o : Opened). Some (record { check = passed_pending link m o.count s; message = o.message })))
 
 -- A message that passed takes its count, and makes its link secure and its subscriber that of the link.
 abbrev pub link_passed : ℕ → List ℕ → Work → Work
-link_passed number supi w = put_link (record (link_of number w) { secure = true; supi = Some supi }) w
+link_passed link supi w = put_link (record (link_of link w) { secure = true; supi = Some supi }) w
 
 abbrev pub noted : ℕ → Check → Work → Work
-noted number c w =
+noted link c w =
     tell (Passed (record { supi = c.subscriber.supi; challenge = c.challenge; count = c.count }))
-    (link_passed number c.subscriber.supi (put c.subscriber w))
+    (link_passed link c.subscriber.supi (put c.subscriber w))

@@ -23,9 +23,9 @@ deregistered s w = ask ReleaseAll s (put (unregistered s) (stopped s w))
 
 -- DEREGISTRATION REQUEST of the handset, which passed; it is answered unless the handset is switched off
 unfoldable pub deregistration_requested : DeregistrationRequestUeOriginating → ℕ → Record → Work → Work
-deregistration_requested m number s w =
+deregistration_requested m link s w =
     when m.switch_off then deregistered s w
-    else say number (Ciphered s.supi) mm.DeregistrationAcceptUeOriginating (deregistered s w)
+    else say link (Ciphered s.supi) mm.DeregistrationAcceptUeOriginating (deregistered s w)
 
 -- DEREGISTRATION ACCEPT of the handset, on the subscriber's link, while the network waits for it
 abbrev pub is_deregistering : Procedure → Bool
@@ -33,9 +33,10 @@ is_deregistering (procedures.Deregistering d) = true
 is_deregistering procedures.Idle = false
 is_deregistering (procedures.Challenging c) = false
 is_deregistering (procedures.Accepting a) = false
+is_deregistering (procedures.Updating u) = false
 
 unfoldable pub deregistration_accepted : ℕ → Record → Work → Work
-deregistration_accepted number s w = when is_deregistering s.procedure && is_on number s.link then deregistered s w else w
+deregistration_accepted link s w = when is_deregistering s.procedure && is_on link s.link then deregistered s w else w
 
 -- DEREGISTRATION REQUEST of the network, without switch off and without a cause
 abbrev pub deregistration_sent : Record → Work → Work

@@ -5,6 +5,7 @@ use Rattle.nas_timers.specs.declared.timer_id.TimerId.{TimerId}
 use Rattle.nas_timers.specs.declared.timer_id.TimerId.TheVariants.{T3510, T3516, T3517, T3521, T3522, T3550, T3555, T3560, T3580, T3581, T3582, T3591, T3592}
 use Rattle.amf_core.specs.Challenges.{challenge, challenge_open, challenge_put, ended, idle}
 use Rattle.amf_core.specs.Commands.{is_idle}
+use Rattle.amf_core.specs.ConfigurationUpdate.{update_put, updating_open}
 use Rattle.amf_core.specs.Deregistration.{deregistration_put, unregistered}
 use Rattle.amf_core.specs.Registration.{acceptance, is_on}
 use Rattle.amf_core.specs.State.{unused}
@@ -18,9 +19,11 @@ use Rattle.amf_core.specs.declared.procedures.Deregistering.{Deregistering}
 use Rattle.amf_core.specs.declared.procedures.Procedure.{Procedure}
 use Rattle.amf_core.specs.declared.procedures.Procedure.TheVariants as procedures
 use Rattle.amf_core.specs.declared.procedures.Purpose.TheVariants.{Command}
+use Rattle.amf_core.specs.declared.procedures.Updating.{Updating}
 use Rattle.amf_core.specs.declared.subscriber.Record.{Record}
 
--- Each message is sent five times at most, at the fifth expiry its procedure ends (clauses 5.4.1.3.7, 5.4.2.7, 5.5.1.2.8 and 5.5.2.3.5).
+-- Each message is sent five times at most, at the fifth expiry its procedure ends (clauses 5.4.1.3.7, 5.4.2.7, 5.4.4.6, 5.5.1.2.8
+-- and 5.5.2.3.5).
 abbrev pub is_left : ℕ → Bool
 is_left sendings = nat_lt sendings 5
 
@@ -45,6 +48,14 @@ accepting_expired a s w =
     then start T3550 s (acceptance_resent (acceptance_again a) s (put (record s { procedure = procedures.Accepting (acceptance_again a) }) w))
     else put (idle s) w
 
+-- T3555: the same CONFIGURATION UPDATE COMMAND, on the subscriber's link; where it isn't confirmed, both 5G-GUTIs stay kept
+abbrev pub update_again : Updating → Updating
+update_again u = record u { sendings = u.sendings + 1 }
+
+abbrev pub updating_expired : Updating → Record → Work → Work
+updating_expired u s w =
+    when is_left u.sendings then update_put (update_again u) (updating_open (update_again u) s) w else put (idle s) w
+
 -- T3522: the same DEREGISTRATION REQUEST; at the end as if it had been accepted
 abbrev pub deregistering_expired : Deregistering → Record → Work → Work
 deregistering_expired d s w =
@@ -56,29 +67,39 @@ abbrev pub of_challenge : Procedure → Record → Work → Work
 of_challenge (procedures.Challenging c) s w = challenging_expired c s w
 of_challenge procedures.Idle s w = w
 of_challenge (procedures.Accepting a) s w = w
+of_challenge (procedures.Updating u) s w = w
 of_challenge (procedures.Deregistering d) s w = w
 
 abbrev pub of_acceptance : Procedure → Record → Work → Work
 of_acceptance (procedures.Accepting a) s w = accepting_expired a s w
 of_acceptance procedures.Idle s w = w
 of_acceptance (procedures.Challenging c) s w = w
+of_acceptance (procedures.Updating u) s w = w
 of_acceptance (procedures.Deregistering d) s w = w
+
+abbrev pub of_update : Procedure → Record → Work → Work
+of_update (procedures.Updating u) s w = updating_expired u s w
+of_update procedures.Idle s w = w
+of_update (procedures.Challenging c) s w = w
+of_update (procedures.Accepting a) s w = w
+of_update (procedures.Deregistering d) s w = w
 
 abbrev pub of_deregistration : Procedure → Record → Work → Work
 of_deregistration (procedures.Deregistering d) s w = deregistering_expired d s w
 of_deregistration procedures.Idle s w = w
 of_deregistration (procedures.Challenging c) s w = w
 of_deregistration (procedures.Accepting a) s w = w
+of_deregistration (procedures.Updating u) s w = w
 
 unfoldable pub expired_of : TimerId → Record → Work → Work
 expired_of T3560 s w = of_challenge s.procedure s w
 expired_of T3550 s w = of_acceptance s.procedure s w
+expired_of T3555 s w = of_update s.procedure s w
 expired_of T3522 s w = of_deregistration s.procedure s w
 expired_of T3510 s w = w
 expired_of T3516 s w = w
 expired_of T3517 s w = w
 expired_of T3521 s w = w
-expired_of T3555 s w = w
 expired_of (T3580 psi) s w = w
 expired_of (T3581 psi) s w = w
 expired_of (T3582 psi) s w = w
@@ -113,20 +134,21 @@ carried_down supi psi frame w = of_supi supi (brought_down psi frame) w
 -- A link is lost: it is as if nothing had been exchanged on it. The subscriber that it last passed or challenged has no link by it any
 -- more, and no challenge on it; what else is open stays open.
 abbrev pub unlinked : ℕ → Record → Record
-unlinked number s = record s { link = when is_on number s.link then None else s.link }
+unlinked link s = record s { link = when is_on link s.link then None else s.link }
 
 abbrev pub is_challenged_on : ℕ → Procedure → Bool
-is_challenged_on number (procedures.Challenging c) = is_on number c.link
-is_challenged_on number procedures.Idle = false
-is_challenged_on number (procedures.Accepting a) = false
-is_challenged_on number (procedures.Deregistering d) = false
+is_challenged_on link (procedures.Challenging c) = is_on link c.link
+is_challenged_on link procedures.Idle = false
+is_challenged_on link (procedures.Accepting a) = false
+is_challenged_on link (procedures.Updating u) = false
+is_challenged_on link (procedures.Deregistering d) = false
 
 abbrev pub link_lost_of : ℕ → Record → Work → Work
-link_lost_of number s w =
-    when is_challenged_on number s.procedure then ended (unlinked number s) w else put (unlinked number s) w
+link_lost_of link s w =
+    when is_challenged_on link s.procedure then ended (unlinked link s) w else put (unlinked link s) w
 
 abbrev pub lost_for : Option (List ℕ) → ℕ → Work → Work
-lost_for supi number w = per supi w (λ (x : List ℕ). of_supi x (link_lost_of number) w)
+lost_for supi link w = per supi w (λ (x : List ℕ). of_supi x (link_lost_of link) w)
 
 unfoldable pub dropped : ℕ → Work → Work
-dropped number w = lost_for (link_of number w).supi number (put_link (unused number) w)
+dropped link w = lost_for (link_of link w).supi link (put_link (unused link) w)

@@ -1,11 +1,10 @@
 -- How what is said becomes octets: spelled, and protected under the contexts of the subscribers (TS 24.501 clause 4.4, TS 33.501 clause 6.4).
-use Rattle.std.specs.Prelude.{◌≡◌, ℕ, ◌+◌, ◌^◌, Bool, true, false, ◌==◌, ◌||◌, List, [], ◌∷◌, ◌++◌, length, nat_lt, Option, Some, None}
+use Rattle.std.specs.Prelude.{ℕ, false, List, [], ◌∷◌, ◌++◌, Option, Some, None}
 use Rattle.nas_base.specs.Branches.{per, when◌then◌else◌}
 use Rattle.nas_base.specs.declared.count.Dir.TheVariants.{Down}
 use Rattle.mm_messages.specs.Messages.{spelling}
+use Rattle.mm_entity.specs.Framing.{counted, is_too_long, is_unsent, next_frame, pass_under}
 use Rattle.nas_security.specs.Contexts.{SecurityContext}
-use Rattle.nas_security.specs.Counts.{with_next}
-use Rattle.nas_security.specs.Frame.{frame}
 use Rattle.milenage.specs.Home.{HomeRecord}
 use Rattle.nas_security.specs.declared.sends.Pass.{Pass}
 use Rattle.amf_core.specs.Changes.{CoreState}
@@ -41,71 +40,52 @@ abbrev pub framed_out : AmfOut → Framed → Framed
 framed_out out f = record f { outs = f.outs ++ out ∷ [] }
 
 abbrev pub sent : ℕ → List ℕ → Option Pass → Framed → Framed
-sent number octets pass f = framed_out (Send (record { link = number; fresh = false; octets = octets; pass = pass })) f
+sent link octets pass f = framed_out (Send (record { link = link; fresh = false; octets = octets; pass = pass })) f
 
-abbrev pub counted : Record → Framed → Framed
-counted s f = record f { amf = with_subscriber s f.amf }
-
--- a message whose frame would have more than 4,096 octets isn't sent
-abbrev pub is_too_long : List ℕ → Bool
-is_too_long message = nat_lt 4089 (length message)
-
--- what spelling a message into an empty writer answered: whether it isn't too long, and then it was written
-abbrev pub IsSpelled : Bool → List ℕ → List ℕ → Type 0
-IsSpelled true out message = (is_too_long message ≡ false) × (out ≡ message)
-IsSpelled false out message = is_too_long message ≡ true
+abbrev pub with_record : Record → Framed → Framed
+with_record s f = record f { amf = with_subscriber s f.amf }
 
 abbrev pub framed_plain : ℕ → List ℕ → Framed → Framed
-framed_plain number message f = when is_too_long message then f else sent number message None f
-
--- a message whose context has no count left isn't sent
-abbrev pub pass_of : SecurityContext → Record → Pass
-pass_of context s = record { supi = s.supi; challenge = context.challenge; count = context.down }
-
-abbrev pub counted_down : SecurityContext → SecurityContext
-counted_down context = with_next context Down (context.down + 1)
-
-abbrev pub is_unsent : List ℕ → SecurityContext → Bool
-is_unsent message context = is_too_long message || context.down == 2 ^ 24
+framed_plain link message f = when is_too_long message then f else sent link message None f
 
 -- header type 2, under the context in use; plain where the subscriber has none
 abbrev pub under_in_use : ℕ → List ℕ → SecurityContext → Record → Framed → Framed
-under_in_use number message context s f =
-    when is_unsent message context then f
-    else sent number (frame context Down context.down 2 message) (Some (pass_of context s))
-    (counted (record s { in_use = Some (counted_down context) }) f)
+under_in_use link message context s f =
+    when is_unsent message context Down then f
+    else sent link (next_frame context Down 2 message) (Some (pass_under s.supi context Down))
+    (with_record (record s { in_use = Some (counted context Down) }) f)
 
 abbrev pub ciphered_for : ℕ → List ℕ → Record → Framed → Framed
-ciphered_for number message s f =
-    per s.in_use (framed_plain number message f) (λ (context : SecurityContext). under_in_use number message context s f)
+ciphered_for link message s f =
+    per s.in_use (framed_plain link message f) (λ (context : SecurityContext). under_in_use link message context s f)
 
 unfoldable pub framed_ciphered : ℕ → List ℕ → List ℕ → Framed → Framed
-framed_ciphered number supi message f =
-    per (subscriber_in supi f.amf.subscribers) (framed_plain number message f) (λ (s : Record). ciphered_for number message s f)
+framed_ciphered link supi message f =
+    per (subscriber_in supi f.amf.subscribers) (framed_plain link message f) (λ (s : Record). ciphered_for link message s f)
 
 -- header type 3, under the context that is commanded
 abbrev pub counted_command : Commanding → Challenging
-counted_command o = record o.challenging { phase = Mode (counted_down o.context) }
+counted_command o = record o.challenging { phase = Mode (counted o.context Down) }
 
 abbrev pub under_new : ℕ → List ℕ → Commanding → Record → Framed → Framed
-under_new number message o s f =
-    when is_unsent message o.context then f
-    else sent number (frame o.context Down o.context.down 3 message) (Some (pass_of o.context s))
-    (counted (record s { procedure = procedures.Challenging (counted_command o) }) f)
+under_new link message o s f =
+    when is_unsent message o.context Down then f
+    else sent link (next_frame o.context Down 3 message) (Some (pass_under s.supi o.context Down))
+    (with_record (record s { procedure = procedures.Challenging (counted_command o) }) f)
 
 abbrev pub commanded_for : ℕ → List ℕ → Record → Framed → Framed
-commanded_for number message s f =
-    per (commanding_of s.procedure) f (λ (o : Commanding). under_new number message o s f)
+commanded_for link message s f =
+    per (commanding_of s.procedure) f (λ (o : Commanding). under_new link message o s f)
 
 unfoldable pub framed_with_new_context : ℕ → List ℕ → List ℕ → Framed → Framed
-framed_with_new_context number supi message f =
-    per (subscriber_in supi f.amf.subscribers) f (λ (s : Record). commanded_for number message s f)
+framed_with_new_context link supi message f =
+    per (subscriber_in supi f.amf.subscribers) f (λ (s : Record). commanded_for link message s f)
 
 unfoldable pub framed : Act → Framed → Framed
 framed (Tell out) f = framed_out out f
-framed (Say number Plain message) f = framed_plain number (spelling message) f
-framed (Say number (Ciphered supi) message) f = framed_ciphered number supi (spelling message) f
-framed (Say number (IntegrityProtectedWithNewContext supi) message) f = framed_with_new_context number supi (spelling message) f
+framed (Say link Plain message) f = framed_plain link (spelling message) f
+framed (Say link (Ciphered supi) message) f = framed_ciphered link supi (spelling message) f
+framed (Say link (IntegrityProtectedWithNewContext supi) message) f = framed_with_new_context link supi (spelling message) f
 
 -- one after the other
 abbrev pub framed_all : List Act → Framed → Framed

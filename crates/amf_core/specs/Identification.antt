@@ -12,16 +12,16 @@ use Rattle.amf_core.specs.declared.requests.Request.{Request}
 
 -- the request that waited for it goes on with the subscriber of the SUCI, and waits no longer; it counts as one that didn't pass
 abbrev pub waited : ℕ → SuciParts → Request → Work → Work
-waited number x r w = request_by_suci number None r (named_by_suci x w) (put_link (record (link_of number w) { waiting = None }) w)
+waited link x r w = request_by_suci link None r (named_by_suci x w) (put_link (record (link_of link w) { waiting = None }) w)
 
 abbrev pub suci_told : ℕ → SuciParts → Work → Work
-suci_told number x w = per (link_of number w).waiting w (λ (r : Request). waited number x r w)
+suci_told link x w = per (link_of link w).waiting w (λ (r : Request). waited link x r w)
 
 abbrev pub told_by : Identity → ℕ → Work → Work
-told_by (identities.Suci x) number w = suci_told number x w
-told_by (identities.Guti g) number w = w
-told_by (identities.Stmsi t) number w = w
-told_by (identities.Other octets) number w = w
+told_by (identities.Suci x) link w = suci_told link x w
+told_by (identities.Guti g) link w = w
+told_by (identities.Stmsi t) link w = w
+told_by (identities.Other octets) link w = w
 
 unfoldable pub identity_told : IdentityResponse → ℕ → Work → Work
-identity_told m number w = told_by m.identity number w
+identity_told m link w = told_by m.identity link w

@@ -6,6 +6,7 @@ pub mod Changes
 pub mod Checks
 pub mod Commands
 pub mod Config
+pub mod ConfigurationUpdate
 pub mod Delivery
 pub mod Deregistration
 pub mod Drafts
@@ -14,6 +15,7 @@ pub mod Framing
 pub mod Identification
 pub mod Keyed
 pub mod Naming
+pub mod Offers
 pub mod Outcome
 pub mod Registration
 pub mod Requests

@@ -1,17 +1,25 @@
 -- What working on a step comes to.
-use Rattle.std.specs.Prelude.{◌≡◌, Result, Ok, Err}
+use Rattle.std.specs.Prelude.{◌≡◌, Bool, true, false, Result, Ok, Err}
+use Rattle.nas_base.specs.Outcomes.{RefusesAs}
 use Rattle.nas_base.specs.declared.memory.Memory.{Memory}
 use Rattle.amf_core.specs.Work.{Work, Working}
 use Rattle.amf_core.specs.declared.inputs.AmfRefusal.{AmfRefusal}
 use Rattle.amf_core.specs.declared.inputs.AmfRefusal.TheVariants as refusals
 
+-- which refusal is want of memory
+abbrev pub wants_memory : AmfRefusal → Bool
+wants_memory refusals.Memory = true
+wants_memory refusals.UnknownSupi = false
+wants_memory (refusals.WrongState word) = false
+wants_memory (refusals.SqnSpent n) = false
+wants_memory (refusals.Uncompleted tmsi) = false
+wants_memory (refusals.Updated tmsi) = false
+wants_memory (refusals.TmsiSpent last) = false
+
 -- the step was worked on as its row says, or refused as it says; or memory was wanting
 abbrev pub Works : Working → Working → Result Unit AmfRefusal → Result Work AmfRefusal → Type 0
 Works old new (Ok done) row = (row ≡ Ok new.work) × (new.before ≡ old.before)
-Works old new (Err refusals.Memory) row = Unit {0}
-Works old new (Err refusals.UnknownSupi) row = row ≡ Err refusals.UnknownSupi
-Works old new (Err (refusals.WrongState word)) row = row ≡ Err (refusals.WrongState word)
-Works old new (Err (refusals.SqnSpent n)) row = row ≡ Err (refusals.SqnSpent n)
+Works old new (Err refusal) row = RefusesAs wants_memory refusal row
 
 -- where memory alone can be wanting
 abbrev pub unrefused : Result Unit Memory → Result Unit AmfRefusal

@@ -40,7 +40,7 @@ counting_capability r s = per r.capability s.capability (λ (capability : List �
 
 -- a link, if there is one, is this one
 abbrev pub is_on : ℕ → Option ℕ → Bool
-is_on number link = per link false (λ (other : ℕ). other == number)
+is_on link own = per own false (λ (other : ℕ). other == link)
 
 -- an equal request has a challenge on this link already, or an acceptance
 abbrev pub is_purpose : Request → Purpose → Bool
@@ -48,15 +48,17 @@ is_purpose r (Registration other) = is_same r other
 is_purpose r Command = false
 
 abbrev pub is_running : ℕ → Request → Procedure → Bool
-is_running number r (procedures.Challenging c) = is_on number c.link && is_purpose r c.purpose
-is_running number r procedures.Idle = false
-is_running number r (procedures.Accepting a) = false
-is_running number r (procedures.Deregistering d) = false
+is_running link r (procedures.Challenging c) = is_on link c.link && is_purpose r c.purpose
+is_running link r procedures.Idle = false
+is_running link r (procedures.Accepting a) = false
+is_running link r (procedures.Updating u) = false
+is_running link r (procedures.Deregistering d) = false
 
 abbrev pub equal_acceptance : Request → Procedure → Option Accepting
 equal_acceptance r (procedures.Accepting a) = when is_same r a.request then Some a else None
 equal_acceptance r procedures.Idle = None
 equal_acceptance r (procedures.Challenging c) = None
+equal_acceptance r (procedures.Updating u) = None
 equal_acceptance r (procedures.Deregistering d) = None
 
 -- REGISTRATION ACCEPT: result 3GPP access, the tracking area, the subscribed slices and T3512; of an acceptance the new 5G-GUTI
@@ -78,10 +80,10 @@ abbrev pub acceptance : Configured → Accepting → Record → Mm
 acceptance config a s = accept config s.slices (Some a.guti) (Some a.status)
 
 abbrev pub accept_sent : Accepting → ℕ → Record → Work → Work
-accept_sent a number s w = say number (Ciphered s.supi) (acceptance (config_of w) a s) w
+accept_sent a link s w = say link (Ciphered s.supi) (acceptance (config_of w) a s) w
 
 abbrev pub periodic_accepted : ℕ → Record → Work → Work
-periodic_accepted number s w = say number (Ciphered s.supi) (accept (config_of w) s.slices None None) w
+periodic_accepted link s w = say link (Ciphered s.supi) (accept (config_of w) s.slices None None) w
 
 -- A periodic request is granted at once where it passed under a context of the subscriber that it names, who is registered.
 abbrev pub is_periodic : RegistrationType → Bool
@@ -96,45 +98,45 @@ is_granted passed r s =
 
 -- of a subscriber whose capability is enough, in the order of its cases
 unfoldable pub request_weighed : ℕ → Option (List ℕ) → Request → Record → Work → Work
-request_weighed number passed r s w =
-    when is_running number r s.procedure then w
+request_weighed link passed r s w =
+    when is_running link r s.procedure then w
     else per (equal_acceptance r s.procedure)
-    (when is_granted passed r s then periodic_accepted number s w
-    else challenge (Registration r) (Some number) (counting_capability r s) s w)
-    (λ (a : Accepting). accept_sent a number s w)
+    (when is_granted passed r s then periodic_accepted link s w
+    else challenge (Registration r) (Some link) (counting_capability r s) s w)
+    (λ (a : Accepting). accept_sent a link s w)
 
 -- of a subscriber that is known
 abbrev pub is_capable : Request → Record → Bool
 is_capable r s = per (counting_capability r s) false is_enough
 
 unfoldable pub requested : ℕ → Option (List ℕ) → Request → Record → Work → Work
-requested number passed r s w =
-    when is_capable r s then request_weighed number passed r s w else reject number cause.UE_SECURITY_CAPABILITIES_MISMATCH w
+requested link passed r s w =
+    when is_capable r s then request_weighed link passed r s w else reject link cause.UE_SECURITY_CAPABILITIES_MISMATCH w
 
 -- A request that waits for the identity of who sent it (clause 5.4.3): the SUCI is asked for.
 abbrev pub suci_type : ℕ
 suci_type = 1
 
 abbrev pub identity_wanted : ℕ → Request → Work → Work
-identity_wanted number r w =
-    answer number (mm.IdentityRequest (record { identity_type = suci_type })) (put_link (record (link_of number w) { waiting = Some r }) w)
+identity_wanted link r w =
+    answer link (mm.IdentityRequest (record { identity_type = suci_type })) (put_link (record (link_of link w) { waiting = Some r }) w)
 
 -- by the identity: a SUCI of no subscriber is rejected, one that isn't read or a 5G-S-TMSI too; a 5G-GUTI that isn't kept is asked about
 abbrev pub request_by_suci : ℕ → Option (List ℕ) → Request → Option Record → Work → Work
-request_by_suci number passed r s w = per s (reject number cause.ILLEGAL_UE w) (λ (x : Record). requested number passed r x w)
+request_by_suci link passed r s w = per s (reject link cause.ILLEGAL_UE w) (λ (x : Record). requested link passed r x w)
 
 abbrev pub request_by_guti : ℕ → Option (List ℕ) → Request → Option Record → Work → Work
-request_by_guti number passed r s w = per s (identity_wanted number r w) (λ (x : Record). requested number passed r x w)
+request_by_guti link passed r s w = per s (identity_wanted link r w) (λ (x : Record). requested link passed r x w)
 
 -- what is kept of it, beside who sent it
 abbrev pub kept : RegistrationRequest → KeptIdentity → Request
 kept m identity = record { registration = m.registration; ksi = m.ksi; identity = identity; capability = m.capability; status = m.status }
 
 abbrev pub request_by_identity : Identity → RegistrationRequest → ℕ → Option (List ℕ) → Work → Work
-request_by_identity (identities.Suci x) m number passed w = request_by_suci number passed (kept m (named.Suci x)) (named_by_suci x w) w
-request_by_identity (identities.Guti g) m number passed w = request_by_guti number passed (kept m (named.Guti g)) (keeper g w) w
-request_by_identity (identities.Stmsi t) m number passed w = reject number cause.UE_IDENTITY_CANNOT_BE_DERIVED_BY_THE_NETWORK w
-request_by_identity (identities.Other octets) m number passed w = reject number cause.UE_IDENTITY_CANNOT_BE_DERIVED_BY_THE_NETWORK w
+request_by_identity (identities.Suci x) m link passed w = request_by_suci link passed (kept m (named.Suci x)) (named_by_suci x w) w
+request_by_identity (identities.Guti g) m link passed w = request_by_guti link passed (kept m (named.Guti g)) (keeper g w) w
+request_by_identity (identities.Stmsi t) m link passed w = reject link cause.UE_IDENTITY_CANNOT_BE_DERIVED_BY_THE_NETWORK w
+request_by_identity (identities.Other octets) m link passed w = reject link cause.UE_IDENTITY_CANNOT_BE_DERIVED_BY_THE_NETWORK w
 
 -- an emergency registration isn't granted
 abbrev pub is_emergency : RegistrationType → Bool
@@ -145,6 +147,6 @@ is_emergency Periodic = false
 
 -- REGISTRATION REQUEST on a link; `passed` is the subscriber under whose context it passed, if it did
 unfoldable pub registration_requested : RegistrationRequest → ℕ → Option (List ℕ) → Work → Work
-registration_requested m number passed w =
-    when is_emergency m.registration then reject number cause.PROTOCOL_ERROR_UNSPECIFIED w
-    else request_by_identity m.identity m number passed w
+registration_requested m link passed w =
+    when is_emergency m.registration then reject link cause.PROTOCOL_ERROR_UNSPECIFIED w
+    else request_by_identity m.identity m link passed w

@@ -38,16 +38,17 @@ unfoldable pub commanding_of : Procedure → Option Commanding
 commanding_of (procedures.Challenging c) = commanding_in c.phase c
 commanding_of procedures.Idle = None
 commanding_of (procedures.Accepting a) = None
+commanding_of (procedures.Updating u) = None
 commanding_of (procedures.Deregistering d) = None
 
 -- on its own link alone
 unfoldable pub commanding_on : ℕ → Procedure → Option Commanding
-commanding_on number procedure =
-    per (commanding_of procedure) None (λ (o : Commanding). when is_on number o.challenging.link then Some o else None)
+commanding_on link procedure =
+    per (commanding_of procedure) None (λ (o : Commanding). when is_on link o.challenging.link then Some o else None)
 
 -- SECURITY MODE REJECT ends the challenge.
 unfoldable pub mode_rejected : ℕ → Record → Work → Work
-mode_rejected number s w = per (commanding_on number s.procedure) w (λ (o : Commanding). ended s w)
+mode_rejected link s w = per (commanding_on link s.procedure) w (λ (o : Commanding). ended s w)
 
 -- The whole request is taken where it is a REGISTRATION REQUEST that names this subscriber by its SUCI, or any 5G-GUTI. Its kind, its
 -- 5G-GUTI and its sessions are used; what the challenge began with tells the rest.
@@ -68,19 +69,19 @@ abbrev pub whole_in : Option (List ℕ) → Record → Option Whole
 whole_in message s = per message None (λ (octets : List ℕ). whole_of (mm_in octets) s)
 
 abbrev pub goes_on : Purpose → Option Whole → ℕ → SecurityContext → Record → Work → Work
-goes_on (Registration r) whole number context s w = per whole w (λ (q : Whole). registration_goes_on number r q context s w)
-goes_on Command whole number context s w = w
+goes_on (Registration r) whole link context s w = per whole w (λ (q : Whole). registration_goes_on link r q context s w)
+goes_on Command whole link context s w = w
 
--- SECURITY MODE COMPLETE under the context that was commanded: it is in use from now on, and the SMF is told so.
+-- SECURITY MODE COMPLETE under the context that was commanded: it is in use from now on, has had no update, and the SMF is told so.
 abbrev pub in_use : SecurityContext → Record → Record
-in_use context s = record s { procedure = procedures.Idle; in_use = Some context }
+in_use context s = record s { procedure = procedures.Idle; in_use = Some context; updated = None }
 
 abbrev pub switched : Commanding → Record → Work → Work
 switched o s w = ask Switched s (put (in_use o.context s) (stopped s w))
 
 abbrev pub completed : SecurityModeComplete → ℕ → Commanding → Record → Work → Work
-completed m number o s w =
-    goes_on o.challenging.purpose (whole_in m.message s) number o.context (in_use o.context s) (switched o s w)
+completed m link o s w =
+    goes_on o.challenging.purpose (whole_in m.message s) link o.context (in_use o.context s) (switched o s w)
 
 unfoldable pub mode_completed : SecurityModeComplete → ℕ → Record → Work → Work
-mode_completed m number s w = per (commanding_of s.procedure) w (λ (o : Commanding). completed m number o s w)
+mode_completed m link s w = per (commanding_of s.procedure) w (λ (o : Commanding). completed m link o s w)

@@ -17,10 +17,10 @@ service_reject n = mm.ServiceReject (record { cause = n; status = None })
 
 -- one that passed: granted to who is registered, else rejected
 unfoldable pub service_requested : ℕ → Record → Work → Work
-service_requested number s w =
-    when s.registered then say number (Ciphered s.supi) service_accept w
-    else answer_for s number (service_reject cause.IMPLICITLY_DEREGISTERED) w
+service_requested link s w =
+    when s.registered then say link (Ciphered s.supi) service_accept w
+    else answer_for s link (service_reject cause.IMPLICITLY_DEREGISTERED) w
 
 -- one that didn't, before secure exchange; nothing changes by it
 unfoldable pub service_refused : ℕ → Work → Work
-service_refused number w = answer number (service_reject cause.UE_IDENTITY_CANNOT_BE_DERIVED_BY_THE_NETWORK) w
+service_refused link w = answer link (service_reject cause.UE_IDENTITY_CANNOT_BE_DERIVED_BY_THE_NETWORK) w

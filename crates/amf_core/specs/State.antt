@@ -40,6 +40,7 @@ abbrev pub procedure_word : Procedure → Bool → AmfWord
 procedure_word procedures.Idle registered = by_registered registered
 procedure_word (procedures.Challenging c) registered = challenged_word c.purpose registered
 procedure_word (procedures.Accepting a) registered = words.Common
+procedure_word (procedures.Updating u) registered = words.Registered
 procedure_word (procedures.Deregistering d) registered = words.Deregistering
 
 abbrev pub word_of : Record → AmfWord
@@ -54,6 +55,7 @@ unknown_yet c = record {
   procedure = procedures.Idle;
   kept = [];
   offered = None;
+  updated = None;
   registered = false;
   completed = false;
   link = None;
@@ -119,6 +121,7 @@ abbrev pub pending_of : Procedure → Option Challenge
 pending_of (procedures.Challenging c) = pending_phase c.phase
 pending_of procedures.Idle = None
 pending_of (procedures.Accepting a) = None
+pending_of (procedures.Updating u) = None
 pending_of (procedures.Deregistering d) = None
 
 -- what can be seen of a subscriber

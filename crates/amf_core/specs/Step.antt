@@ -1,16 +1,17 @@
 -- One step of an AMF: what comes in, by its row, and what goes out.
 use Rattle.std.specs.Prelude.{◌≡◌, ℕ, List, [], Result, Ok, Err}
 use Rattle.milenage.specs.Home.{HomeRecord}
-use Rattle.amf_core.specs.Commands.{authenticate, deregister}
+use Rattle.nas_base.specs.Outcomes.{RefusesAs}
+use Rattle.amf_core.specs.Commands.{authenticate, deregister, update}
 use Rattle.amf_core.specs.Delivery.{brought_up}
 use Rattle.amf_core.specs.Drafts.{DraftState}
 use Rattle.amf_core.specs.Events.{carried_down, dropped, expired, fenced, sessions_told}
 use Rattle.amf_core.specs.Framing.{Framed, framed_all}
+use Rattle.amf_core.specs.Outcome.{wants_memory}
 use Rattle.amf_core.specs.State.{AmfState}
 use Rattle.amf_core.specs.declared.inputs.AmfInput.{AmfInput}
-use Rattle.amf_core.specs.declared.inputs.AmfInput.TheVariants.{Uplink, Expired, Authenticate, Deregister, Fence, Sessions, Down, Dropped}
+use Rattle.amf_core.specs.declared.inputs.AmfInput.TheVariants.{Uplink, Expired, Authenticate, Deregister, Update, Fence, Sessions, Down, Dropped}
 use Rattle.amf_core.specs.declared.inputs.AmfRefusal.{AmfRefusal}
-use Rattle.amf_core.specs.declared.inputs.AmfRefusal.TheVariants as refusals
 use Rattle.amf_core.specs.declared.outs.AmfOut.{AmfOut}
 use Rattle.amf_core.specs.Work.{Work}
 
@@ -24,6 +25,7 @@ worked (Uplink link fresh octets) w = Ok (brought_up link fresh octets w)
 worked (Expired supi id) w = Ok (expired supi id w)
 worked (Authenticate supi) w = authenticate supi w
 worked (Deregister supi) w = deregister supi w
+worked (Update supi) w = update supi w
 worked (Fence supi) w = Ok (fenced supi w)
 worked (Sessions supi status) w = Ok (sessions_told supi status w)
 worked (Down supi psi frame) w = Ok (carried_down supi psi frame w)
@@ -54,15 +56,9 @@ Kept old new old_home new_home = (new ≡ old) × (new_home ≡ old_home)
 
 abbrev pub Steps : AmfState → AmfState → List HomeRecord → List HomeRecord → Result (List AmfOut) AmfRefusal → Result Stepped AmfRefusal → Type 0
 Steps old new old_home new_home (Ok outs) step = step ≡ Ok (record { amf = new; home = new_home; outs = outs })
-Steps old new old_home new_home (Err refusals.Memory) step = Kept old new old_home new_home
-Steps old new old_home new_home (Err refusals.UnknownSupi) step = Kept old new old_home new_home × (step ≡ Err refusals.UnknownSupi)
-Steps old new old_home new_home (Err (refusals.WrongState word)) step = Kept old new old_home new_home × (step ≡ Err (refusals.WrongState word))
-Steps old new old_home new_home (Err (refusals.SqnSpent n)) step = Kept old new old_home new_home × (step ≡ Err (refusals.SqnSpent n))
+Steps old new old_home new_home (Err refusal) step = Kept old new old_home new_home × RefusesAs wants_memory refusal step
 
 -- the same on what steps before it left, which its owner takes over later
 abbrev pub Follows : DraftState → Result (DraftState × List AmfOut) AmfRefusal → Result Stepped AmfRefusal → Type 0
 Follows old (Ok (new, outs)) step = (step ≡ Ok (record { amf = new.amf; home = new.home; outs = outs })) × (new.before ≡ old.before)
-Follows old (Err refusals.Memory) step = Unit {0}
-Follows old (Err refusals.UnknownSupi) step = step ≡ Err refusals.UnknownSupi
-Follows old (Err (refusals.WrongState word)) step = step ≡ Err (refusals.WrongState word)
-Follows old (Err (refusals.SqnSpent n)) step = step ≡ Err (refusals.SqnSpent n)
+Follows old (Err refusal) step = RefusesAs wants_memory refusal step

@@ -22,7 +22,7 @@ session_of container_type psi =
 
 -- UL NAS TRANSPORT: a 5GSM message of a session goes to the SMF. Anything else goes back.
 abbrev pub not_forwarded : UlNasTransport → ℕ → Record → Work → Work
-not_forwarded m number s w = say number (Ciphered s.supi) (mm.DlNasTransport (record {
+not_forwarded m link s w = say link (Ciphered s.supi) (mm.DlNasTransport (record {
   container_type = m.container_type;
   container = m.container;
   psi = m.psi;
@@ -30,8 +30,8 @@ not_forwarded m number s w = say number (Ciphered s.supi) (mm.DlNasTransport (re
 })) w
 
 unfoldable pub transported : UlNasTransport → ℕ → Challenge → Record → Work → Work
-transported m number challenge s w =
-    per (session_of m.container_type m.psi) (not_forwarded m number s w)
+transported m link challenge s w =
+    per (session_of m.container_type m.psi) (not_forwarded m link s w)
     (λ (psi : ℕ). ask (Frame psi challenge m.dnn m.slice m.container) s w)
 
 -- DL NAS TRANSPORT with a 5GSM message of the SMF

@@ -44,7 +44,7 @@ put s w = record w { amf = with_subscriber s w.amf }
 
 -- the record of a link, and another in its place
 abbrev pub link_of : ℕ → Work → Link
-link_of number w = link_in number w.amf.links
+link_of link w = link_in link w.amf.links
 
 unfoldable pub put_link : Link → Work → Work
 put_link l w = record w { amf = with_link l w.amf }
@@ -55,17 +55,17 @@ put_home home w = record w { home = home }
 
 -- the subscriber that a link last passed or challenged
 abbrev pub subscriber_of_link : ℕ → Work → Option Record
-subscriber_of_link number w = per (link_of number w).supi None (λ (supi : List ℕ). subscriber supi w)
+subscriber_of_link link w = per (link_of link w).supi None (λ (supi : List ℕ). subscriber supi w)
 
 -- somebody is told something; a message is to be sent on a link, if there is one
 abbrev pub tell : AmfOut → Work → Work
 tell out w = record w { acts = w.acts ++ Tell out ∷ [] }
 
 abbrev pub say : ℕ → Protection → Mm → Work → Work
-say number protection message w = record w { acts = w.acts ++ Say number protection message ∷ [] }
+say link protection message w = record w { acts = w.acts ++ Say link protection message ∷ [] }
 
 abbrev pub say_on : Option ℕ → Protection → Mm → Work → Work
-say_on link protection message w = per link w (λ (number : ℕ). say number protection message w)
+say_on on protection message w = per on w (λ (link : ℕ). say link protection message w)
 
 -- What is protected on a secure link and plain on any other: AUTHENTICATION REQUEST and REJECT, IDENTITY REQUEST, REGISTRATION REJECT,
 -- SERVICE REJECT and 5GMM STATUS (TS 24.501 clause 4.4.4.3). It is protected for the subscriber whose procedure it belongs to; what
@@ -78,17 +78,17 @@ own_protection l = per l.supi Plain (λ (supi : List ℕ). by_link l supi)
 
 -- an answer to an uplink that belongs to no procedure
 abbrev pub answer : ℕ → Mm → Work → Work
-answer number message w = say number (own_protection (link_of number w)) message w
+answer link message w = say link (own_protection (link_of link w)) message w
 
 abbrev pub status : ℕ → ℕ → Work → Work
-status number cause w = answer number (mm.FiveGmmStatus (record { cause = cause })) w
+status link cause w = answer link (mm.FiveGmmStatus (record { cause = cause })) w
 
 abbrev pub reject : ℕ → ℕ → Work → Work
-reject number cause w = answer number (mm.RegistrationReject (record { cause = cause })) w
+reject link cause w = answer link (mm.RegistrationReject (record { cause = cause })) w
 
 -- one that belongs to the procedure of a subscriber
 abbrev pub answer_for : Record → ℕ → Mm → Work → Work
-answer_for s number message w = say number (by_link (link_of number w) s.supi) message w
+answer_for s link message w = say link (by_link (link_of link w) s.supi) message w
 
 -- what was configured
 abbrev pub config_of : Work → Configured

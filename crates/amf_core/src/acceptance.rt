@@ -1,20 +1,17 @@
 //! A registration that is accepted.
 ghost use Rattle.std.specs.Prelude.{◌≡◌, ◌<◌, ◌^◌, OnOk};
-ghost use Rattle.amf_core.specs.Work.{by, config_of};
-ghost use Rattle.amf_core.specs.Acceptance.{acceptance_ended, acceptance_put, confirmed, is_initial, kept_with, new_guti, offered, opened_acceptance, registration_completed, registration_goes_on, registration_granted, released, tmsi_of, tmsi_taken, told_sessions};
+ghost use Rattle.amf_core.specs.Acceptance.{acceptance_ended, acceptance_put, is_initial, kept_with, offered, opened_acceptance, registration_completed, registration_goes_on, registration_granted, released, told_sessions};
+ghost use Rattle.amf_core.specs.Work.{by};
 
-use crate::subscriber::copied_offer;
+use crate::offers::{NO_TMSI, confirmed, offered_by};
 use crate::work::Work;
-use crate::{Accepting, Configured, Gutis, Offer, Procedure, Record, Request, SmfAsk};
+use crate::{Accepting, Gutis, Offer, OfferKind, Procedure, Record, Request, SmfAsk};
 use mm_messages::{Mm, RegistrationReject, RegistrationType};
 use nas_base::Memory;
 use nas_base::mm_cause::PROTOCOL_ERROR_UNSPECIFIED;
 use nas_elements::{Guti, Status};
 use nas_security::{Challenge, Context};
 use nas_timers::TimerId;
-
-// 5G-TMSIs have 32 bits.
-const NO_TMSI: u64 = 1 << 32;
 
 /// What is taken of the whole request in SECURITY MODE COMPLETE: its kind, its 5G-GUTI, if it names one, and its sessions.
 #[derive(Drop)]
@@ -49,18 +46,6 @@ fn told_sessions(whole: &Whole, s: &Record) -> Status
     }
 }
 
-// A new 5G-GUTI.
-fn new_guti(config: &Configured, tmsi: u32) -> Guti
-    ensures { result ≡ new_guti config.now tmsi }
-{
-    Guti {
-        plmn: config.plmn.copy(),
-        region: config.region,
-        set_pointer: config.set_pointer,
-        tmsi,
-    }
-}
-
 // The new 5G-GUTI, and before it the one that the request named, if it was kept.
 #[tactic(auto, unfolding(nas_base::specs::Branches::chosen, nas_base::specs::Branches::per))]
 fn kept_with(named: &Option<Guti>, guti: &Guti, kept: &Gutis) -> Gutis
@@ -88,20 +73,10 @@ fn opened_acceptance(
         offered: Some(Offer {
             guti: accepting.guti.copy(),
             challenge,
+            kind: OfferKind::Accept,
         }),
         registered: true,
         completed: false,
-        ..s
-    }
-}
-
-// A subscriber whose 5G-GUTI is confirmed.
-fn confirmed(guti: &Guti, s: Record) -> Record
-    ensures { result ≡ confirmed guti.now s }
-{
-    Record {
-        kept: Gutis::from_one(guti.copy()),
-        completed: true,
         ..s
     }
 }
@@ -122,42 +97,25 @@ impl<'a> Work<'a> {
     }
 
     // An acceptance stands as the subscriber's procedure, REGISTRATION ACCEPT is sent, and its timer runs.
-    fn put_acceptance(
-        &mut self,
-        number: u16,
-        accepting: &Accepting,
-        s: Record,
-    ) -> Result<(), Memory>
-        ensures { OnOk result (self.new ≡ by (acceptance_put number accepting.now s) self.old) }
+    fn put_acceptance(&mut self, link: u16, accepting: &Accepting, s: Record) -> Result<(), Memory>
+        ensures { OnOk result (self.new ≡ by (acceptance_put link accepting.now s) self.old) }
     {
         self.put(s.copy())?;
-        self.send_accept(accepting, number, &s)?;
+        self.send_accept(accepting, link, &s)?;
         self.start(TimerId::T3550, &s)
-    }
-
-    // A new 5G-GUTI, whose 5G-TMSI is then taken.
-    fn next_guti(&mut self) -> Guti
-        requires { self.old.work.amf.tmsi < 2 ^ 32 }
-        ensures guti { result ≡ new_guti (config_of self.old.work) (tmsi_of self.old.work) }
-        ensures taken { self.new ≡ by tmsi_taken self.old }
-    {
-        let tmsi = self.tmsi() as u32;
-        let guti = new_guti(self.config(), tmsi);
-        self.take_tmsi();
-        guti
     }
 
     // A new 5G-GUTI is offered.
     fn offer(
         &mut self,
-        number: u16,
+        link: u16,
         request: &Request,
         whole: &Whole,
         challenge: Challenge,
         s: Record,
     ) -> Result<(), Memory>
         requires { self.old.work.amf.tmsi < 2 ^ 32 }
-        ensures { OnOk result (self.new ≡ by (offered number request.now whole.now challenge s) self.old) }
+        ensures { OnOk result (self.new ≡ by (offered link request.now whole.now challenge s) self.old) }
     {
         let guti = self.next_guti();
         let accepting = Accepting {
@@ -167,27 +125,27 @@ impl<'a> Work<'a> {
             sendings: 1,
         };
         let s = opened_acceptance(&accepting, &whole.guti, challenge, s);
-        self.put_acceptance(number, &accepting, s)
+        self.put_acceptance(link, &accepting, s)
     }
 
     // The registration is granted, where a 5G-TMSI is left.
     #[tactic(auto, unfolding(nas_base::specs::Branches::chosen))]
     fn grant(
         &mut self,
-        number: u16,
+        link: u16,
         request: &Request,
         whole: &Whole,
         challenge: Challenge,
         s: Record,
     ) -> Result<(), Memory>
-        ensures { OnOk result (self.new ≡ by (registration_granted number request.now whole.now challenge s) self.old) }
+        ensures { OnOk result (self.new ≡ by (registration_granted link request.now whole.now challenge s) self.old) }
     {
         if self.tmsi() < NO_TMSI {
-            return self.offer(number, request, whole, challenge, s);
+            return self.offer(link, request, whole, challenge, s);
         }
         self.answer_for(
             &s,
-            number,
+            link,
             Mm::RegistrationReject(RegistrationReject {
                 cause: PROTOCOL_ERROR_UNSPECIFIED,
             }),
@@ -198,16 +156,16 @@ impl<'a> Work<'a> {
     #[tactic(auto, unfolding(crate::specs::Acceptance::registration_goes_on))]
     pub fn registration_goes_on(
         &mut self,
-        number: u16,
+        link: u16,
         request: &Request,
         whole: &Whole,
         context: &Context,
         s: Record,
     ) -> Result<(), Memory>
-        ensures { OnOk result (self.new ≡ by (registration_goes_on number request.now whole.now context.now s) self.old) }
+        ensures { OnOk result (self.new ≡ by (registration_goes_on link request.now whole.now context.now s) self.old) }
     {
         self.release(whole, &s)?;
-        self.grant(number, request, whole, context.challenge, s)
+        self.grant(link, request, whole, context.challenge, s)
     }
 
     // The acceptance ends, if it is still open.
@@ -216,23 +174,21 @@ impl<'a> Work<'a> {
     {
         match &s.procedure {
             Procedure::Accepting(_) => self.end_open(s),
-            Procedure::Idle | Procedure::Challenging(_) | Procedure::Deregistering(_) => {
-                self.put(s)
-            }
+            Procedure::Idle
+            | Procedure::Challenging(_)
+            | Procedure::Updating(_)
+            | Procedure::Deregistering(_) => self.put(s),
         }
     }
 
     /// REGISTRATION COMPLETE under the context of this challenge.
-    #[tactic(auto, unfolding(crate::specs::Acceptance::registration_completed, nas_base::specs::Branches::chosen, nas_base::specs::Branches::per))]
+    #[tactic(auto, unfolding(crate::specs::Acceptance::registration_completed, nas_base::specs::Branches::per))]
     pub fn registration_completed(&mut self, challenge: &Challenge, s: Record) -> Result<(), Memory>
         ensures { OnOk result (self.new ≡ by (registration_completed challenge.now s) self.old) }
     {
-        let Some(offer) = copied_offer(&s.offered) else {
-            return Ok(());
-        };
-        if !offer.challenge.equals(challenge) {
-            return Ok(());
+        match offered_by(OfferKind::Accept, challenge, &s) {
+            Some(guti) => self.end_acceptance(confirmed(&guti, s)),
+            None => Ok(()),
         }
-        self.end_acceptance(confirmed(&offer.guti, s))
     }
 }

@@ -1,12 +1,13 @@
 //! The AMF: what it keeps.
 ghost use Rattle.std.specs.Prelude.{◌≡◌, map, option_map, IfOk};
 ghost use Rattle.amf_core.specs.Changes.{changed};
-ghost use Rattle.amf_core.specs.State.{first, numbered_from, subscriber_in, unknown_yet, view_in};
-ghost use Rattle.amf_core.specs.Keyed.{all_current, current, newest};
+ghost use Rattle.amf_core.specs.State.{first, has_number, numbered_from, subscriber_in, unknown_yet, view_in};
+ghost use Rattle.amf_core.specs.Keyed.{all_current, current, found, newest};
 ghost use Rattle.amf_core.specs.State.{is_same_link, is_same_subscriber};
 
 use crate::changes::Changes;
 use crate::{AmfConfig, AmfSubscriber, Configured, Link, NetView, Record};
+use mm_entity::{are_same_digits, is_same_supi};
 use nas_base::{Memory, Supi};
 use std::alloc::Global;
 use std::marker::Model;
@@ -99,7 +100,7 @@ pub fn newest_subscriber<'a>(changed: &'a [Record], kept: &Record) -> Option<&'a
     ensures { option_map (λ s. s.now) result ≡ newest is_same_subscriber changed.now kept.now }
 {
     for record in changed {
-        if kept.supi.as_slice() == record.supi.as_slice() {
+        if is_same_supi(&kept.supi, &record.supi) {
             return Some(record);
         }
     }
@@ -156,12 +157,24 @@ fn take_links(records: &mut [Link], changed: &[Link])
     }
 }
 
-// The record of a SUPI, if there is one.
-fn record_of<'a>(records: &'a [Record], supi: &[u8]) -> Option<&'a Record>
+/// The record of a SUPI, if there is one.
+pub fn record_of<'a>(records: &'a [Record], supi: &[u8]) -> Option<&'a Record>
     ensures { option_map (λ s. s.now) result ≡ subscriber_in supi.now records.now }
 {
     for record in records {
-        if record.supi.as_slice() == supi {
+        if are_same_digits(record.supi.as_slice(), supi) {
+            return Some(record);
+        }
+    }
+    None
+}
+
+/// The record of a link, if there is one.
+pub fn link_record_of(records: &[Link], number: u16) -> Option<&Link>
+    ensures { option_map (λ l. l.now) result ≡ found (has_number number) records.now }
+{
+    for record in records {
+        if record.number == number {
             return Some(record);
         }
     }

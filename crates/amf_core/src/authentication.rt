@@ -26,13 +26,13 @@ pub struct Asking {
 
 // The challenge that waits for the answer to its AUTHENTICATION REQUEST on this link.
 #[tactic(auto, unfolding(crate::specs::Authentication::asking_on, nas_base::specs::Branches::chosen))]
-fn asking_on(number: u16, procedure: &Procedure) -> Option<Asking>
-    ensures { result ≡ asking_on number procedure.now }
+fn asking_on(link: u16, procedure: &Procedure) -> Option<Asking>
+    ensures { result ≡ asking_on link procedure.now }
 {
     let Procedure::Challenging(challenging) = procedure else {
         return None;
     };
-    if !is_on(number, challenging.link) {
+    if !is_on(link, challenging.link) {
         return None;
     }
     match &challenging.phase {
@@ -106,11 +106,11 @@ impl<'a> Work<'a> {
     }
 
     // AUTHENTICATION REJECT; the challenge ends.
-    fn reject_authentication(&mut self, number: u16, s: Record) -> Result<(), Memory>
-        ensures { OnOk result (self.new ≡ by (authentication_rejected number s) self.old) }
+    fn reject_authentication(&mut self, link: u16, s: Record) -> Result<(), Memory>
+        ensures { OnOk result (self.new ≡ by (authentication_rejected link s) self.old) }
     {
         self.end_open(s.copy())?;
-        self.answer_for(&s, number, Mm::AuthenticationReject)
+        self.answer_for(&s, link, Mm::AuthenticationReject)
     }
 
     // An answer to a challenge that waits for it.
@@ -118,16 +118,16 @@ impl<'a> Work<'a> {
     fn answered(
         &mut self,
         response: &AuthenticationResponse,
-        number: u16,
+        link: u16,
         asking: &Asking,
         s: Record,
     ) -> Result<(), Memory>
-        ensures { OnOk result (self.new ≡ by (answered response.now number asking.now s) self.old) }
+        ensures { OnOk result (self.new ≡ by (answered response.now link asking.now s) self.old) }
     {
         if is_expected(&response.res_star, &asking.auth) {
             return self.command_mode(asking, s);
         }
-        self.reject_authentication(number, s)
+        self.reject_authentication(link, s)
     }
 
     /// AUTHENTICATION RESPONSE.
@@ -135,13 +135,13 @@ impl<'a> Work<'a> {
     pub fn responded(
         &mut self,
         response: &AuthenticationResponse,
-        number: u16,
+        link: u16,
         s: Record,
     ) -> Result<(), Memory>
-        ensures { OnOk result (self.new ≡ by (responded response.now number s) self.old) }
+        ensures { OnOk result (self.new ≡ by (responded response.now link s) self.old) }
     {
-        match asking_on(number, &s.procedure) {
-            Some(asking) => self.answered(response, number, &asking, s),
+        match asking_on(link, &s.procedure) {
+            Some(asking) => self.answered(response, link, &asking, s),
             None => Ok(()),
         }
     }
@@ -183,16 +183,14 @@ impl<'a> Work<'a> {
         &mut self,
         alloc: Global,
         failure: &AuthenticationFailure,
-        number: u16,
+        link: u16,
         asking: &Asking,
         s: Record,
     ) -> Result<(), Memory>
-        ensures { OnOk result (self.new ≡ by (failed_by failure.now number asking.now s) self.old) }
+        ensures { OnOk result (self.new ≡ by (failed_by failure.now link asking.now s) self.old) }
     {
         match failure.cause {
-            MAC_FAILURE | NON_5G_AUTHENTICATION_UNACCEPTABLE => self.reject_authentication(
-                number, s,
-            ),
+            MAC_FAILURE | NON_5G_AUTHENTICATION_UNACCEPTABLE => self.reject_authentication(link, s),
             SYNCH_FAILURE => match &failure.auts {
                 Some(auts) => self.resynchronised(alloc, auts, asking, s),
                 None => Ok(()),
@@ -208,13 +206,13 @@ impl<'a> Work<'a> {
         &mut self,
         alloc: Global,
         failure: &AuthenticationFailure,
-        number: u16,
+        link: u16,
         s: Record,
     ) -> Result<(), Memory>
-        ensures { OnOk result (self.new ≡ by (authentication_failed failure.now number s) self.old) }
+        ensures { OnOk result (self.new ≡ by (authentication_failed failure.now link s) self.old) }
     {
-        match asking_on(number, &s.procedure) {
-            Some(asking) => self.failed_by(alloc, failure, number, &asking, s),
+        match asking_on(link, &s.procedure) {
+            Some(asking) => self.failed_by(alloc, failure, link, &asking, s),
             None => Ok(()),
         }
     }

@@ -179,6 +179,7 @@ impl<'a> Work<'a> {
             Procedure::Idle => Ok(()),
             Procedure::Challenging(_) => self.stop(TimerId::T3560, s),
             Procedure::Accepting(_) => self.stop(TimerId::T3550, s),
+            Procedure::Updating(_) => self.stop(TimerId::T3555, s),
             Procedure::Deregistering(_) => self.stop(TimerId::T3522, s),
         }
     }
@@ -193,11 +194,11 @@ impl<'a> Work<'a> {
     }
 
     // AUTHENTICATION REQUEST is sent.
-    fn send_request(&mut self, auth: &Authentication, number: u16, s: &Record) -> Result<(), Memory>
-        ensures { OnOk result (self.new ≡ by (request_sent auth.now number s.now) self.old) }
+    fn send_request(&mut self, auth: &Authentication, link: u16, s: &Record) -> Result<(), Memory>
+        ensures { OnOk result (self.new ≡ by (request_sent auth.now link s.now) self.old) }
     {
         let message = Mm::AuthenticationRequest(authentication_request(auth));
-        self.answer_for(s, number, message)
+        self.answer_for(s, link, message)
     }
 
     // What a challenge waits for the answer to.
@@ -207,7 +208,7 @@ impl<'a> Work<'a> {
     {
         match &challenging.phase {
             Phase::Auth(auth) => match challenging.link {
-                Some(number) => self.send_request(auth, number, s),
+                Some(link) => self.send_request(auth, link, s),
                 None => Ok(()),
             },
             Phase::Mode(context) => {
@@ -237,18 +238,18 @@ impl<'a> Work<'a> {
         ensures { OnOk result (self.new ≡ by (claimed link supi.now) self.old) }
     {
         match link {
-            Some(number) => self.claim_one(number, supi),
+            Some(link) => self.claim_one(link, supi),
             None => Ok(()),
         }
     }
 
     // The same of a link that there is.
-    fn claim_one(&mut self, number: u16, supi: &Supi) -> Result<(), Memory>
-        ensures { OnOk result (self.new ≡ by (claimed_one number supi.now) self.old) }
+    fn claim_one(&mut self, link: u16, supi: &Supi) -> Result<(), Memory>
+        ensures { OnOk result (self.new ≡ by (claimed_one link supi.now) self.old) }
     {
-        let mut link = self.link(number);
-        link.supi = Some(supi.copy());
-        self.put_link(link)
+        let mut record = self.link(link);
+        record.supi = Some(supi.copy());
+        self.put_link(record)
     }
 
     // A challenge that there is a vector for.
@@ -299,7 +300,7 @@ impl<'a> Work<'a> {
     {
         match purpose {
             Purpose::Registration(_) => match link {
-                Some(number) => self.reject(number, PROTOCOL_ERROR_UNSPECIFIED),
+                Some(link) => self.reject(link, PROTOCOL_ERROR_UNSPECIFIED),
                 None => Ok(()),
             },
             Purpose::Command => Ok(()),

@@ -1,5 +1,5 @@
 //! What an AMF makes of octets that come up a link.
-ghost use Rattle.std.specs.Prelude.{◌≡◌, [], drop, slice_index_or, IfOk, Ok, OnOk, option_map};
+ghost use Rattle.std.specs.Prelude.{◌≡◌, [], IfOk, Ok, OnOk, option_map};
 ghost use Rattle.mm_messages.specs.Messages.{mm_in};
 ghost use Rattle.amf_core.specs.Delivery.{action, brought_up, by_table, check_of, ciphered, ciphered_for, failed, failed_request, freshened, integrity_protected, is_permitted_type, message_of, named_inside, passed, plain, received, sender, taken, taken_plain, under_either, under_new_context};
 ghost use Rattle.amf_core.specs.Work.{by};
@@ -8,6 +8,9 @@ use crate::Record;
 use crate::checks::{Check, checked_in_use, checked_pending};
 use crate::work::Work;
 use collision_rules::{Action, collide_amf, permitted_amf};
+use mm_entity::{
+    EPD_5GMM, FIVE_GMM_STATUS, header_type, inside, is_too_long, message_type, octet_at,
+};
 use mm_messages::{Mm, MmRefusal, decode_mm, kind_of};
 use nas_base::mm_cause::{
     INVALID_MANDATORY_INFORMATION, MESSAGE_TYPE_NON_EXISTENT_OR_NOT_IMPLEMENTED,
@@ -15,15 +18,6 @@ use nas_base::mm_cause::{
 };
 use nas_base::{Memory, MmKind, Writer};
 use std::alloc::Global;
-
-// 5GMM's extended protocol discriminator (TS 24.501 clause 9.2).
-const EPD_5GMM: u8 = 0x7e;
-
-// Octets of a message at most, of a frame as of a plain one.
-const LONGEST: usize = 4096;
-
-// The message type of 5GMM STATUS, which is never answered (TS 24.501 clause 7.5.1).
-const FIVE_GMM_STATUS: u8 = 0x64;
 
 // Whether a plain message of this type is answered where a part of it is wrong.
 #[tactic(auto, unfolding(nas_base::specs::Branches::per))]
@@ -33,26 +27,6 @@ fn is_permitted_type(code: u8) -> bool
     match MmKind::from_code(code) {
         Some(kind) => permitted_amf(kind),
         None => false,
-    }
-}
-
-// An octet, 0 where there is none.
-fn octet_at(octets: &[u8], index: usize) -> u8
-    ensures { result ≡ slice_index_or octets.now index 0 }
-{
-    match octets.get(index) {
-        Some(octet) => *octet,
-        None => 0,
-    }
-}
-
-// What stands behind the head of a frame.
-fn inside(octets: &[u8]) -> &[u8]
-    ensures { result.now ≡ drop 7 octets.now }
-{
-    match octets.get(7..) {
-        Some(inside) => inside,
-        None => &[],
     }
 }
 
@@ -71,12 +45,12 @@ fn message_in(alloc: Global, octets: &[u8]) -> Result<Option<Mm>, Memory>
 
 // Octets under the context in use of a subscriber, if there is one.
 #[tactic(auto, unfolding(nas_base::specs::Branches::per))]
-fn check_of(s: Option<Record>, number: u16, octets: &[u8], out: &mut Writer) -> Option<Check>
+fn check_of(s: Option<Record>, link: u16, octets: &[u8], out: &mut Writer) -> Option<Check>
     requires { out.old ≡ [] }
-    ensures { option_map (λ check. record { check = check; message = out.new }) result ≡ check_of s number octets.now }
+    ensures { option_map (λ check. record { check = check; message = out.new }) result ≡ check_of s link octets.now }
 {
     match s {
-        Some(s) => checked_in_use(number, octets, s, out),
+        Some(s) => checked_in_use(link, octets, s, out),
         None => None,
     }
 }
@@ -86,69 +60,69 @@ impl<'a> Work<'a> {
     pub fn bring_up(
         &mut self,
         alloc: Global,
-        number: u16,
+        link: u16,
         fresh: bool,
         octets: &[u8],
     ) -> Result<(), Memory>
-        ensures { OnOk result (self.new ≡ by (brought_up number fresh octets.now) self.old) }
+        ensures { OnOk result (self.new ≡ by (brought_up link fresh octets.now) self.old) }
     {
-        self.freshen(fresh, number)?;
-        self.received(alloc, number, octets)
+        self.freshen(fresh, link)?;
+        self.received(alloc, link, octets)
     }
 
     // Octets on their link.
     #[tactic(auto, unfolding(crate::specs::Delivery::received, nas_base::specs::Branches::chosen))]
-    fn received(&mut self, alloc: Global, number: u16, octets: &[u8]) -> Result<(), Memory>
-        ensures { OnOk result (self.new ≡ by (received number octets.now) self.old) }
+    fn received(&mut self, alloc: Global, link: u16, octets: &[u8]) -> Result<(), Memory>
+        ensures { OnOk result (self.new ≡ by (received link octets.now) self.old) }
     {
-        if octet_at(octets, 0) != EPD_5GMM || octets.len() > LONGEST {
+        if octet_at(octets, 0) != EPD_5GMM || is_too_long(octets) {
             return Ok(());
         }
-        match octet_at(octets, 1) % 16 {
-            0 => self.plain(alloc, number, octets),
-            1 => self.integrity_protected(alloc, number, octets),
-            2 => self.ciphered(alloc, number, octets),
-            4 => self.under_new_context(alloc, number, octets),
+        match header_type(octets) {
+            0 => self.plain(alloc, link, octets),
+            1 => self.integrity_protected(alloc, link, octets),
+            2 => self.ciphered(alloc, link, octets),
+            4 => self.under_new_context(alloc, link, octets),
             _ => Ok(()),
         }
     }
 
     // The first message of a connection finds its link not secure.
     #[tactic(auto, unfolding(crate::specs::Delivery::freshened, nas_base::specs::Branches::chosen))]
-    fn freshen(&mut self, fresh: bool, number: u16) -> Result<(), Memory>
-        ensures { OnOk result (self.new ≡ by (freshened fresh number) self.old) }
+    fn freshen(&mut self, fresh: bool, link: u16) -> Result<(), Memory>
+        ensures { OnOk result (self.new ≡ by (freshened fresh link) self.old) }
     {
         if !fresh {
             return Ok(());
         }
-        let mut link = self.link(number);
-        link.secure = false;
-        self.put_link(link)
+        let mut record = self.link(link);
+        record.secure = false;
+        self.put_link(record)
     }
 
     // A plain message.
     #[tactic(auto, unfolding(crate::specs::Delivery::plain, nas_base::specs::Branches::chosen))]
-    fn plain(&mut self, alloc: Global, number: u16, octets: &[u8]) -> Result<(), Memory>
-        ensures { OnOk result (self.new ≡ by (plain number octets.now) self.old) }
+    fn plain(&mut self, alloc: Global, link: u16, octets: &[u8]) -> Result<(), Memory>
+        ensures { OnOk result (self.new ≡ by (plain link octets.now) self.old) }
     {
-        if self.link(number).secure {
+        if self.link(link).secure {
             return Ok(());
         }
         match decode_mm(alloc, octets) {
             Ok(message) => {
                 if permitted_amf(kind_of(&message)) {
-                    return self.taken_plain(alloc, number, message);
+                    return self.taken_plain(alloc, link, message);
                 }
                 Ok(())
             }
             Err(MmRefusal::Ignored { at: _ }) => Ok(()),
             Err(MmRefusal::UnknownType { n: _ }) => self.status(
-                number,
+                link,
                 MESSAGE_TYPE_NON_EXISTENT_OR_NOT_IMPLEMENTED,
             ),
             Err(MmRefusal::Mandatory { part: _, at: _ }) => {
-                if is_permitted_type(octet_at(octets, 2)) {
-                    return self.status(number, INVALID_MANDATORY_INFORMATION);
+                if is_permitted_type(message_type(octets)) {
+                    return self.status(link, INVALID_MANDATORY_INFORMATION);
                 }
                 Ok(())
             }
@@ -158,12 +132,12 @@ impl<'a> Work<'a> {
 
     // The subscriber that a frame of header type 1 is checked for.
     #[tactic(auto, unfolding(nas_base::specs::Branches::per))]
-    fn sender(&self, number: u16, message: &Option<Mm>) -> Option<Record>
-        ensures { result ≡ sender number message.now self.now.work }
+    fn sender(&self, link: u16, message: &Option<Mm>) -> Option<Record>
+        ensures { result ≡ sender link message.now self.now.work }
     {
         match self.named_inside(message) {
             Some(s) => Some(s),
-            None => self.subscriber_of_link(number),
+            None => self.subscriber_of_link(link),
         }
     }
 
@@ -184,70 +158,65 @@ impl<'a> Work<'a> {
 
     // A frame of header type 1.
     #[tactic(auto, unfolding(crate::specs::Delivery::integrity_protected, nas_base::specs::Branches::per))]
-    fn integrity_protected(
-        &mut self,
-        alloc: Global,
-        number: u16,
-        octets: &[u8],
-    ) -> Result<(), Memory>
-        ensures { OnOk result (self.new ≡ by (integrity_protected number octets.now) self.old) }
+    fn integrity_protected(&mut self, alloc: Global, link: u16, octets: &[u8]) -> Result<(), Memory>
+        ensures { OnOk result (self.new ≡ by (integrity_protected link octets.now) self.old) }
     {
         let message = message_in(alloc, inside(octets))?;
-        let s = self.sender(number, &message);
+        let s = self.sender(link, &message);
         let mut out = Writer::new();
-        match check_of(s, number, octets, &mut out) {
-            Some(check) => self.passed(alloc, number, out.octets(), check),
-            None => self.failed(alloc, number, message),
+        match check_of(s, link, octets, &mut out) {
+            Some(check) => self.passed(alloc, link, out.octets(), check),
+            None => self.failed(alloc, link, message),
         }
     }
 
     // A frame of header type 1 that failed.
     #[tactic(auto, unfolding(nas_base::specs::Branches::chosen, nas_base::specs::Branches::per))]
-    fn failed(&mut self, alloc: Global, number: u16, message: Option<Mm>) -> Result<(), Memory>
-        ensures { OnOk result (self.new ≡ by (failed number message) self.old) }
+    fn failed(&mut self, alloc: Global, link: u16, message: Option<Mm>) -> Result<(), Memory>
+        ensures { OnOk result (self.new ≡ by (failed link message) self.old) }
     {
-        if self.link(number).secure {
+        if self.link(link).secure {
             return Ok(());
         }
         match message {
-            Some(message) => self.failed_request(alloc, number, message),
+            Some(message) => self.failed_request(alloc, link, message),
             None => Ok(()),
         }
     }
 
     // The request inside it.
-    fn failed_request(&mut self, alloc: Global, number: u16, message: Mm) -> Result<(), Memory>
-        ensures { OnOk result (self.new ≡ by (failed_request number message) self.old) }
+    fn failed_request(&mut self, alloc: Global, link: u16, message: Mm) -> Result<(), Memory>
+        ensures { OnOk result (self.new ≡ by (failed_request link message) self.old) }
     {
         match message {
             Mm::RegistrationRequest(request) => {
-                self.registration_requested(alloc, &request, number, &None)
+                self.registration_requested(alloc, &request, link, &None)
             }
-            Mm::ServiceRequest(_) => self.service_refused(number),
+            Mm::ServiceRequest(_) => self.service_refused(link),
             _ => Ok(()),
         }
     }
 
     // A frame of header type 2.
     #[tactic(auto, unfolding(crate::specs::Delivery::ciphered, nas_base::specs::Branches::per))]
-    fn ciphered(&mut self, alloc: Global, number: u16, octets: &[u8]) -> Result<(), Memory>
-        ensures { OnOk result (self.new ≡ by (ciphered number octets.now) self.old) }
+    fn ciphered(&mut self, alloc: Global, link: u16, octets: &[u8]) -> Result<(), Memory>
+        ensures { OnOk result (self.new ≡ by (ciphered link octets.now) self.old) }
     {
-        let s = self.subscriber_of_link(number);
+        let s = self.subscriber_of_link(link);
         let mut out = Writer::new();
-        match check_of(s, number, octets, &mut out) {
-            Some(check) => self.passed(alloc, number, out.octets(), check),
+        match check_of(s, link, octets, &mut out) {
+            Some(check) => self.passed(alloc, link, out.octets(), check),
             None => Ok(()),
         }
     }
 
     // A frame of header type 4.
     #[tactic(auto, unfolding(crate::specs::Delivery::under_new_context, nas_base::specs::Branches::per))]
-    fn under_new_context(&mut self, alloc: Global, number: u16, octets: &[u8]) -> Result<(), Memory>
-        ensures { OnOk result (self.new ≡ by (under_new_context number octets.now) self.old) }
+    fn under_new_context(&mut self, alloc: Global, link: u16, octets: &[u8]) -> Result<(), Memory>
+        ensures { OnOk result (self.new ≡ by (under_new_context link octets.now) self.old) }
     {
-        match self.subscriber_of_link(number) {
-            Some(s) => self.under_either(alloc, number, octets, s),
+        match self.subscriber_of_link(link) {
+            Some(s) => self.under_either(alloc, link, octets, s),
             None => Ok(()),
         }
     }
@@ -257,16 +226,16 @@ impl<'a> Work<'a> {
     fn under_either(
         &mut self,
         alloc: Global,
-        number: u16,
+        link: u16,
         octets: &[u8],
         s: Record,
     ) -> Result<(), Memory>
-        ensures { OnOk result (self.new ≡ by (under_either number octets.now s) self.old) }
+        ensures { OnOk result (self.new ≡ by (under_either link octets.now s) self.old) }
     {
         let mut out = Writer::new();
-        match checked_pending(number, octets, &s, &mut out) {
-            Some(check) => self.passed(alloc, number, out.octets(), check),
-            None => self.ciphered_for(alloc, number, octets, s),
+        match checked_pending(link, octets, &s, &mut out) {
+            Some(check) => self.passed(alloc, link, out.octets(), check),
+            None => self.ciphered_for(alloc, link, octets, s),
         }
     }
 
@@ -275,15 +244,15 @@ impl<'a> Work<'a> {
     fn ciphered_for(
         &mut self,
         alloc: Global,
-        number: u16,
+        link: u16,
         octets: &[u8],
         s: Record,
     ) -> Result<(), Memory>
-        ensures { OnOk result (self.new ≡ by (ciphered_for number octets.now s) self.old) }
+        ensures { OnOk result (self.new ≡ by (ciphered_for link octets.now s) self.old) }
     {
         let mut out = Writer::new();
-        match checked_in_use(number, octets, s, &mut out) {
-            Some(check) => self.passed(alloc, number, out.octets(), check),
+        match checked_in_use(link, octets, s, &mut out) {
+            Some(check) => self.passed(alloc, link, out.octets(), check),
             None => Ok(()),
         }
     }
@@ -293,25 +262,25 @@ impl<'a> Work<'a> {
     fn passed(
         &mut self,
         alloc: Global,
-        number: u16,
+        link: u16,
         octets: &[u8],
         check: Check,
     ) -> Result<(), Memory>
-        ensures { OnOk result (self.new ≡ by (passed number octets.now check) self.old) }
+        ensures { OnOk result (self.new ≡ by (passed link octets.now check) self.old) }
     {
-        self.note(number, &check)?;
+        self.note(link, &check)?;
         match decode_mm(alloc, octets) {
-            Ok(message) => self.by_table(alloc, number, check, message),
+            Ok(message) => self.by_table(alloc, link, check, message),
             Err(MmRefusal::Ignored { at: _ }) => Ok(()),
             Err(MmRefusal::UnknownType { n: _ }) => self.status(
-                number,
+                link,
                 MESSAGE_TYPE_NON_EXISTENT_OR_NOT_IMPLEMENTED,
             ),
             Err(MmRefusal::Mandatory { part: _, at: _ }) => {
-                if octet_at(octets, 2) == FIVE_GMM_STATUS {
+                if message_type(octets) == FIVE_GMM_STATUS {
                     return Ok(());
                 }
-                self.status(number, INVALID_MANDATORY_INFORMATION)
+                self.status(link, INVALID_MANDATORY_INFORMATION)
             }
             Err(MmRefusal::Memory) => Err(Memory),
         }
@@ -321,17 +290,17 @@ impl<'a> Work<'a> {
     fn by_table(
         &mut self,
         alloc: Global,
-        number: u16,
+        link: u16,
         check: Check,
         message: Mm,
     ) -> Result<(), Memory>
-        ensures { OnOk result (self.new ≡ by (by_table (action message check.subscriber) number check message) self.old) }
+        ensures { OnOk result (self.new ≡ by (by_table (action message check.subscriber) link check message) self.old) }
     {
         let s = &check.subscriber;
         match collide_amf(s.word(), s.registered, kind_of(&message)) {
-            Action::Take => self.taken(alloc, number, check, message),
+            Action::Take => self.taken(alloc, link, check, message),
             Action::Status98 => self.status(
-                number,
+                link,
                 MESSAGE_TYPE_NOT_COMPATIBLE_WITH_THE_PROTOCOL_STATE,
             ),
             Action::Discard | Action::Status43 | Action::Status47 => Ok(()),
@@ -340,35 +309,36 @@ impl<'a> Work<'a> {
 
     // The row of a message that passed.
     #[tactic(auto, unfolding(crate::specs::Delivery::taken, nas_base::specs::Branches::chosen))]
-    fn taken(&mut self, alloc: Global, number: u16, check: Check, message: Mm) -> Result<(), Memory>
-        ensures { OnOk result (self.new ≡ by (taken number check message) self.old) }
+    fn taken(&mut self, alloc: Global, link: u16, check: Check, message: Mm) -> Result<(), Memory>
+        ensures { OnOk result (self.new ≡ by (taken link check message) self.old) }
     {
         let s = check.subscriber;
         match message {
             Mm::RegistrationRequest(request) => {
                 let passed = Some(s.supi);
-                self.registration_requested(alloc, &request, number, &passed)
+                self.registration_requested(alloc, &request, link, &passed)
             }
             Mm::RegistrationComplete => self.registration_completed(&check.challenge, s),
+            Mm::ConfigurationUpdateComplete => self.update_completed(&check.challenge, s),
             Mm::DeregistrationRequestUeOriginating(request) => {
-                self.deregistration_requested(&request, number, &s)
+                self.deregistration_requested(&request, link, &s)
             }
-            Mm::DeregistrationAcceptUeTerminated => self.deregistration_accepted(number, &s),
-            Mm::ServiceRequest(_) => self.service_requested(number, &s),
-            Mm::AuthenticationResponse(response) => self.responded(&response, number, s),
+            Mm::DeregistrationAcceptUeTerminated => self.deregistration_accepted(link, &s),
+            Mm::ServiceRequest(_) => self.service_requested(link, &s),
+            Mm::AuthenticationResponse(response) => self.responded(&response, link, s),
             Mm::AuthenticationFailure(failure) => {
-                self.authentication_failed(alloc, &failure, number, s)
+                self.authentication_failed(alloc, &failure, link, s)
             }
-            Mm::IdentityResponse(response) => self.identity_told(alloc, &response, number),
+            Mm::IdentityResponse(response) => self.identity_told(alloc, &response, link),
             Mm::SecurityModeComplete(complete) => {
                 if check.is_pending {
-                    return self.mode_completed(alloc, &complete, number, s);
+                    return self.mode_completed(alloc, &complete, link, s);
                 }
                 Ok(())
             }
-            Mm::SecurityModeReject(_) => self.mode_rejected(number, s),
+            Mm::SecurityModeReject(_) => self.mode_rejected(link, s),
             Mm::UlNasTransport(transport) => {
-                self.transported(transport, number, check.challenge, &s)
+                self.transported(transport, link, check.challenge, &s)
             }
             _ => Ok(()),
         }
@@ -376,29 +346,29 @@ impl<'a> Work<'a> {
 
     // The row of a plain message before secure exchange.
     #[tactic(auto, unfolding(crate::specs::Delivery::taken_plain, nas_base::specs::Branches::per))]
-    fn taken_plain(&mut self, alloc: Global, number: u16, message: Mm) -> Result<(), Memory>
-        ensures { OnOk result (self.new ≡ by (taken_plain number message) self.old) }
+    fn taken_plain(&mut self, alloc: Global, link: u16, message: Mm) -> Result<(), Memory>
+        ensures { OnOk result (self.new ≡ by (taken_plain link message) self.old) }
     {
         match message {
             Mm::RegistrationRequest(request) => {
-                self.registration_requested(alloc, &request, number, &None)
+                self.registration_requested(alloc, &request, link, &None)
             }
-            Mm::ServiceRequest(_) => self.service_refused(number),
-            Mm::IdentityResponse(response) => self.identity_told(alloc, &response, number),
-            Mm::AuthenticationResponse(response) => match self.subscriber_of_link(number) {
-                Some(s) => self.responded(&response, number, s),
+            Mm::ServiceRequest(_) => self.service_refused(link),
+            Mm::IdentityResponse(response) => self.identity_told(alloc, &response, link),
+            Mm::AuthenticationResponse(response) => match self.subscriber_of_link(link) {
+                Some(s) => self.responded(&response, link, s),
                 None => Ok(()),
             },
-            Mm::AuthenticationFailure(failure) => match self.subscriber_of_link(number) {
-                Some(s) => self.authentication_failed(alloc, &failure, number, s),
+            Mm::AuthenticationFailure(failure) => match self.subscriber_of_link(link) {
+                Some(s) => self.authentication_failed(alloc, &failure, link, s),
                 None => Ok(()),
             },
-            Mm::SecurityModeReject(_) => match self.subscriber_of_link(number) {
-                Some(s) => self.mode_rejected(number, s),
+            Mm::SecurityModeReject(_) => match self.subscriber_of_link(link) {
+                Some(s) => self.mode_rejected(link, s),
                 None => Ok(()),
             },
-            Mm::DeregistrationAcceptUeTerminated => match self.subscriber_of_link(number) {
-                Some(s) => self.deregistration_accepted(number, &s),
+            Mm::DeregistrationAcceptUeTerminated => match self.subscriber_of_link(link) {
+                Some(s) => self.deregistration_accepted(link, &s),
                 None => Ok(()),
             },
             _ => Ok(()),

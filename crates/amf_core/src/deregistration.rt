@@ -28,7 +28,10 @@ fn is_deregistering(procedure: &Procedure) -> bool
 {
     match procedure {
         Procedure::Deregistering(_) => true,
-        Procedure::Idle | Procedure::Challenging(_) | Procedure::Accepting(_) => false,
+        Procedure::Idle
+        | Procedure::Challenging(_)
+        | Procedure::Accepting(_)
+        | Procedure::Updating(_) => false,
     }
 }
 
@@ -48,17 +51,17 @@ impl<'a> Work<'a> {
     pub fn deregistration_requested(
         &mut self,
         request: &DeregistrationRequestUeOriginating,
-        number: u16,
+        link: u16,
         s: &Record,
     ) -> Result<(), Memory>
-        ensures { OnOk result (self.new ≡ by (deregistration_requested request.now number s.now) self.old) }
+        ensures { OnOk result (self.new ≡ by (deregistration_requested request.now link s.now) self.old) }
     {
         self.deregister(s)?;
         if request.switch_off {
             return Ok(());
         }
         self.say(
-            number,
+            link,
             Protection::Ciphered(s.supi.copy()),
             Mm::DeregistrationAcceptUeOriginating,
         )
@@ -66,10 +69,10 @@ impl<'a> Work<'a> {
 
     /// DEREGISTRATION ACCEPT of the handset.
     #[tactic(auto, unfolding(crate::specs::Deregistration::deregistration_accepted, nas_base::specs::Branches::chosen))]
-    pub fn deregistration_accepted(&mut self, number: u16, s: &Record) -> Result<(), Memory>
-        ensures { OnOk result (self.new ≡ by (deregistration_accepted number s.now) self.old) }
+    pub fn deregistration_accepted(&mut self, link: u16, s: &Record) -> Result<(), Memory>
+        ensures { OnOk result (self.new ≡ by (deregistration_accepted link s.now) self.old) }
     {
-        if is_deregistering(&s.procedure) && is_on(number, s.link) {
+        if is_deregistering(&s.procedure) && is_on(link, s.link) {
             return self.deregister(s);
         }
         Ok(())

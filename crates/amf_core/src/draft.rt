@@ -8,7 +8,7 @@ ghost use Rattle.amf_core.specs.Naming.{keeps_guti, keeps_stmsi};
 ghost use Rattle.amf_core.specs.State.{has_number, is_same_link, is_same_subscriber, link_in, subscriber_in, with_link, with_next_tmsi, with_subscriber};
 ghost use Rattle.milenage.specs.Home.{challenge_of, challenged, resync_of, resynced};
 
-use crate::amf::{newest_link, newest_subscriber};
+use crate::amf::{link_record_of, newest_link, newest_subscriber, record_of};
 use crate::changes::{Before, Changes};
 use crate::{Amf, Configured, Link, Record};
 use milenage::{Home, HomeRefusal, Vector};
@@ -88,19 +88,16 @@ impl<'a> Draft<'a> {
         &amf.config
     }
 
-    /// The record of a subscriber, by the digits of its SUPI.
+    /// The record of a subscriber, by the digits of its SUPI. A change keeps its SUPI, so that of before is looked for.
+    #[tactic(auto, using(crate::proofs::Drafting::subscriber_by_now))]
     pub(crate) fn subscriber(&self, supi: &[u8]) -> Option<Record>
         ensures { result ≡ subscriber_in supi.now self.now.amf.subscribers }
     {
         let amf = self.before.amf;
-        let changes = &self.changes;
-        for record in amf.subscribers.as_slice() {
-            let by_now = changes.by_now(record);
-            if by_now.supi.as_slice() == supi {
-                return Some(by_now.copy());
-            }
+        match record_of(amf.subscribers.as_slice(), supi) {
+            Some(kept) => Some(self.changes.by_now(kept).copy()),
+            None => None,
         }
-        None
     }
 
     /// The record of the subscriber that a 5G-GUTI is kept for.
@@ -156,18 +153,15 @@ impl<'a> Draft<'a> {
     }
 
     // The same, if there is one.
+    #[tactic(auto, using(crate::proofs::Drafting::link_by_now))]
     fn found_link(&self, number: u16) -> Option<&Link>
         ensures { option_map (λ l. l.now) result ≡ found (has_number number) self.now.amf.links }
     {
         let amf = self.before.amf;
-        let changes = &self.changes;
-        for record in amf.links.as_slice() {
-            let by_now = changes.link_by_now(record);
-            if by_now.number == number {
-                return Some(by_now);
-            }
+        match link_record_of(amf.links.as_slice(), number) {
+            Some(kept) => Some(self.changes.link_by_now(kept)),
+            None => None,
         }
-        None
     }
 
     /// A record takes the place of that of its link.

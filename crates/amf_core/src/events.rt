@@ -1,20 +1,21 @@
 //! Timers that expire, what the SMF wants, and links that are lost.
 ghost use Rattle.std.specs.Prelude.{◌≡◌, ◌<◌, OnOk};
-ghost use Rattle.amf_core.specs.Events.{acceptance_again, acceptance_resent, accepting_expired, carried_down, challenge_again, challenging_expired, deregistering_expired, dropped, expired, expired_of, fenced, fenced_of, is_challenged_on, link_lost_of, lost_for, sessions_told, unlinked};
+ghost use Rattle.amf_core.specs.Events.{acceptance_again, acceptance_resent, accepting_expired, carried_down, challenge_again, challenging_expired, deregistering_expired, dropped, expired, expired_of, fenced, fenced_of, is_challenged_on, link_lost_of, lost_for, sessions_told, unlinked, update_again, updating_expired};
 ghost use Rattle.amf_core.specs.Work.{by};
 
 use crate::acts::Protection;
 use crate::challenges::{challenge_open, idle};
+use crate::configuration_update::updating_open;
 use crate::deregistration::unregistered;
 use crate::registration::{acceptance, is_on};
 use crate::work::Work;
-use crate::{Accepting, Challenging, Link, Procedure, Purpose, Record, SmfAsk};
+use crate::{Accepting, Challenging, Link, Procedure, Purpose, Record, SmfAsk, Updating};
 use nas_base::{Memory, Octets, Psi, Supi};
 use nas_elements::Status;
 use nas_timers::TimerId;
 use std::alloc::Global;
 
-// How often a message is sent (TS 24.501 clauses 5.4.1.3.7, 5.4.2.7, 5.5.1.2.8 and 5.5.2.3.5).
+// How often a message is sent (TS 24.501 clauses 5.4.1.3.7, 5.4.2.7, 5.4.4.6, 5.5.1.2.8 and 5.5.2.3.5).
 const SENDINGS: u8 = 5;
 
 // The same challenge, sent once more.
@@ -43,22 +44,36 @@ fn acceptance_again(accepting: &Accepting) -> Accepting
     }
 }
 
+// The same update, sent once more.
+fn update_again(updating: &Updating) -> Updating
+    requires { updating.now.sendings < 5 }
+    ensures { result ≡ update_again updating.now }
+{
+    Updating {
+        guti: updating.guti.copy(),
+        sendings: updating.sendings + 1,
+    }
+}
+
 // Whether a challenge is on this link.
-fn is_challenged_on(number: u16, procedure: &Procedure) -> bool
-    ensures { result ≡ is_challenged_on number procedure.now }
+fn is_challenged_on(link: u16, procedure: &Procedure) -> bool
+    ensures { result ≡ is_challenged_on link procedure.now }
 {
     match procedure {
-        Procedure::Challenging(challenging) => is_on(number, challenging.link),
-        Procedure::Idle | Procedure::Accepting(_) | Procedure::Deregistering(_) => false,
+        Procedure::Challenging(challenging) => is_on(link, challenging.link),
+        Procedure::Idle
+        | Procedure::Accepting(_)
+        | Procedure::Updating(_)
+        | Procedure::Deregistering(_) => false,
     }
 }
 
 // A subscriber that doesn't have this link.
 #[tactic(auto, unfolding(nas_base::specs::Branches::chosen))]
-fn unlinked(number: u16, s: Record) -> Record
-    ensures { result ≡ unlinked number s }
+fn unlinked(link: u16, s: Record) -> Record
+    ensures { result ≡ unlinked link s }
 {
-    let link = if is_on(number, s.link) { None } else { s.link };
+    let link = if is_on(link, s.link) { None } else { s.link };
     Record { link, ..s }
 }
 
@@ -101,6 +116,19 @@ impl<'a> Work<'a> {
         self.start(TimerId::T3550, &s)
     }
 
+    // T3555 of an update.
+    #[tactic(auto, unfolding(nas_base::specs::Branches::chosen))]
+    fn updating_expired(&mut self, updating: &Updating, s: Record) -> Result<(), Memory>
+        ensures { OnOk result (self.new ≡ by (updating_expired updating.now s) self.old) }
+    {
+        if updating.sendings >= SENDINGS {
+            return self.put(idle(s));
+        }
+        let again = update_again(updating);
+        let s = updating_open(&again, s);
+        self.put_update(&again, s)
+    }
+
     // T3522 of a de-registration.
     #[tactic(auto, unfolding(nas_base::specs::Branches::chosen))]
     fn deregistering_expired(&mut self, sendings: u8, s: &Record) -> Result<(), Memory>
@@ -126,6 +154,10 @@ impl<'a> Work<'a> {
             (TimerId::T3550, Procedure::Accepting(accepting)) => {
                 let accepting = accepting.copy();
                 self.accepting_expired(&accepting, s)
+            }
+            (TimerId::T3555, Procedure::Updating(updating)) => {
+                let updating = updating.copy();
+                self.updating_expired(&updating, s)
             }
             (TimerId::T3522, Procedure::Deregistering(deregistering)) => {
                 let sendings = deregistering.sendings;
@@ -192,36 +224,36 @@ impl<'a> Work<'a> {
 
     // The link of a subscriber is lost.
     #[tactic(auto, unfolding(nas_base::specs::Branches::chosen))]
-    fn lose_link(&mut self, number: u16, s: Record) -> Result<(), Memory>
-        ensures { OnOk result (self.new ≡ by (link_lost_of number s) self.old) }
+    fn lose_link(&mut self, link: u16, s: Record) -> Result<(), Memory>
+        ensures { OnOk result (self.new ≡ by (link_lost_of link s) self.old) }
     {
-        if is_challenged_on(number, &s.procedure) {
-            return self.end_open(unlinked(number, s));
+        if is_challenged_on(link, &s.procedure) {
+            return self.end_open(unlinked(link, s));
         }
-        self.put(unlinked(number, s))
+        self.put(unlinked(link, s))
     }
 
     // A link is lost that was this subscriber's, if any.
     #[tactic(auto, unfolding(nas_base::specs::Branches::per))]
-    fn lose_for(&mut self, supi: &Option<Supi>, number: u16) -> Result<(), Memory>
-        ensures { OnOk result (self.new ≡ by (lost_for supi.now number) self.old) }
+    fn lose_for(&mut self, supi: &Option<Supi>, link: u16) -> Result<(), Memory>
+        ensures { OnOk result (self.new ≡ by (lost_for supi.now link) self.old) }
     {
         let Some(supi) = supi else {
             return Ok(());
         };
         match self.subscriber(supi.as_slice()) {
-            Some(s) => self.lose_link(number, s),
+            Some(s) => self.lose_link(link, s),
             None => Ok(()),
         }
     }
 
     /// A link is lost.
     #[tactic(auto, unfolding(crate::specs::Events::dropped))]
-    pub fn dropped(&mut self, number: u16) -> Result<(), Memory>
-        ensures { OnOk result (self.new ≡ by (dropped number) self.old) }
+    pub fn dropped(&mut self, link: u16) -> Result<(), Memory>
+        ensures { OnOk result (self.new ≡ by (dropped link) self.old) }
     {
-        let supi = self.link(number).supi;
-        self.put_link(Link::unused(number))?;
-        self.lose_for(&supi, number)
+        let supi = self.link(link).supi;
+        self.put_link(Link::unused(link))?;
+        self.lose_for(&supi, link)
     }
 }

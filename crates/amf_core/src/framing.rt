@@ -1,21 +1,19 @@
 //! How what is said becomes octets: spelled, and protected under the contexts of the subscribers.
 ghost use Rattle.std.specs.Prelude.{◌≡◌, ◌≤◌, [], OnOk, length};
 ghost use Rattle.mm_messages.specs.Messages.{spelling};
-ghost use Rattle.amf_core.specs.Framing.{IsSpelled, by, ciphered_for, counted, framed, framed_all, framed_ciphered, framed_out, framed_plain, framed_with_new_context, sent, under_in_use, under_new};
+ghost use Rattle.amf_core.specs.Framing.{by, ciphered_for, framed, framed_all, framed_ciphered, framed_out, framed_plain, framed_with_new_context, sent, under_in_use, under_new, with_record};
 ghost use Rattle.amf_core.specs.State.{subscriber_in};
 
 use crate::acts::{Act, Acts, Protection};
 use crate::draft::Draft;
 use crate::security_mode::{Commanding, commanding_of};
 use crate::{AmfOut, AmfOuts, Challenging, Phase, Procedure, Record};
-use mm_messages::{Mm, encode_mm};
+use mm_entity::{frame_under, spelled};
+use mm_messages::Mm;
 use nas_base::{Dir, Memory, Octets, Supi, Writer};
-use nas_security::{Context, Pass, Send, protect};
+use nas_security::{Context, Pass, Send};
 use std::alloc::Global;
 use std::marker::Model;
-
-// Octets of a message at most whose frame has 4,096.
-const LONGEST: usize = 4089;
 
 /// The AMF, whose contexts' counts the messages take, and what was sent and told so far.
 #[derive(Drop)]
@@ -59,7 +57,7 @@ impl<'a> Framing<'a> {
 
     // A record whose count was taken takes the place of that of its subscriber.
     fn put(&mut self, subscriber: Record) -> Result<(), Memory>
-        ensures { OnOk result (self.new ≡ by (counted subscriber) self.old) }
+        ensures { OnOk result (self.new ≡ by (with_record subscriber) self.old) }
     {
         self.core.put(subscriber)
     }
@@ -160,20 +158,10 @@ impl<'a> Framing<'a> {
     ) -> Result<(), Memory>
         ensures { OnOk result (self.new ≡ by (under_in_use link (spelling message.now) context s) self.old) }
     {
-        let mut plain = Writer::new();
-        if !spelled(message, &mut plain) {
-            return Ok(());
-        }
         let mut context = context;
         let mut out = Writer::new();
-        let challenge = context.challenge;
-        let Ok(count) = protect(&mut context, Dir::Down, 2, plain.octets(), &mut out) else {
+        let Some(pass) = frame_under(&mut context, Dir::Down, 2, message, &s.supi, &mut out) else {
             return Ok(());
-        };
-        let pass = Pass {
-            supi: s.supi.copy(),
-            challenge,
-            count,
         };
         self.put(Record {
             in_use: Some(context),
@@ -214,20 +202,10 @@ impl<'a> Framing<'a> {
     ) -> Result<(), Memory>
         ensures { OnOk result (self.new ≡ by (under_new link (spelling message.now) commanding.now s) self.old) }
     {
-        let mut plain = Writer::new();
-        if !spelled(message, &mut plain) {
-            return Ok(());
-        }
         let mut context = commanding.context;
         let mut out = Writer::new();
-        let challenge = context.challenge;
-        let Ok(count) = protect(&mut context, Dir::Down, 3, plain.octets(), &mut out) else {
+        let Some(pass) = frame_under(&mut context, Dir::Down, 3, message, &s.supi, &mut out) else {
             return Ok(());
-        };
-        let pass = Pass {
-            supi: s.supi.copy(),
-            challenge,
-            count,
         };
         let challenging = Challenging {
             purpose: commanding.challenging.purpose.copy(),
@@ -264,12 +242,4 @@ impl<'a> Framing<'a> {
         };
         self.push(alloc, AmfOut::Send(send))
     }
-}
-
-// Spells a message whose frame doesn't have more than 4,096 octets.
-fn spelled(message: &Mm, out: &mut Writer) -> bool
-    requires { out.old ≡ [] }
-    ensures { IsSpelled result out.new (spelling message.now) }
-{
-    encode_mm(message, out).is_ok() && out.octets().len() <= LONGEST
 }

@@ -15,26 +15,26 @@ impl<'a> Work<'a> {
     fn go_on(
         &mut self,
         alloc: Global,
-        number: u16,
+        link: u16,
         suci: &Suci,
         request: Request,
     ) -> Result<(), Memory>
-        ensures { OnOk result (self.new ≡ by (waited number suci.now request) self.old) }
+        ensures { OnOk result (self.new ≡ by (waited link suci.now request) self.old) }
     {
         let s = self.named_by_suci(suci);
-        let mut link = self.link(number);
-        link.waiting = None;
-        self.put_link(link)?;
-        self.request_by_suci(alloc, number, &None, request, s)
+        let mut record = self.link(link);
+        record.waiting = None;
+        self.put_link(record)?;
+        self.request_by_suci(alloc, link, &None, request, s)
     }
 
     // A SUCI was told.
     #[tactic(auto, unfolding(nas_base::specs::Branches::per))]
-    fn suci_told(&mut self, alloc: Global, number: u16, suci: &Suci) -> Result<(), Memory>
-        ensures { OnOk result (self.new ≡ by (suci_told number suci.now) self.old) }
+    fn suci_told(&mut self, alloc: Global, link: u16, suci: &Suci) -> Result<(), Memory>
+        ensures { OnOk result (self.new ≡ by (suci_told link suci.now) self.old) }
     {
-        match self.link(number).waiting {
-            Some(request) => self.go_on(alloc, number, suci, request),
+        match self.link(link).waiting {
+            Some(request) => self.go_on(alloc, link, suci, request),
             None => Ok(()),
         }
     }
@@ -45,12 +45,12 @@ impl<'a> Work<'a> {
         &mut self,
         alloc: Global,
         response: &IdentityResponse,
-        number: u16,
+        link: u16,
     ) -> Result<(), Memory>
-        ensures { OnOk result (self.new ≡ by (identity_told response.now number) self.old) }
+        ensures { OnOk result (self.new ≡ by (identity_told response.now link) self.old) }
     {
         match &response.identity {
-            Identity::Suci(suci) => self.suci_told(alloc, number, suci),
+            Identity::Suci(suci) => self.suci_told(alloc, link, suci),
             Identity::Guti(_) | Identity::Stmsi(_) | Identity::Other(_) => Ok(()),
         }
     }

@@ -22,6 +22,8 @@ pub enum AmfInput {
     Authenticate(Supi),
     /// The command to de-register a subscriber (TS 24.501 clause 5.5.2.3).
     Deregister(Supi),
+    /// The command to give a subscriber a new 5G-GUTI (TS 24.501 clause 5.4.4).
+    Update(Supi),
     /// The SMF wants a security mode procedure.
     Fence(Supi),
     /// The SMF tells which sessions there are.
@@ -50,6 +52,12 @@ pub enum AmfRefusal {
     WrongState { state: AmfWord },
     /// No sequence number is left behind this one.
     SqnSpent { sqn: u64 },
+    /// The last 5G-GUTI that was offered, with this 5G-TMSI, isn't confirmed.
+    Uncompleted { tmsi: u32 },
+    /// The context in use has had an update, with this 5G-TMSI.
+    Updated { tmsi: u32 },
+    /// No 5G-TMSI is left behind this one.
+    TmsiSpent { last: u32 },
     /// There was no memory left.
     Memory,
 }

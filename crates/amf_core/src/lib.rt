@@ -11,6 +11,7 @@ mod changes;
 mod checks;
 mod commands;
 mod config;
+mod configuration_update;
 mod delivery;
 mod deregistration;
 mod draft;
@@ -20,6 +21,7 @@ mod identification;
 mod inputs;
 mod link;
 mod naming;
+mod offers;
 mod outs;
 mod procedures;
 mod registration;
@@ -40,9 +42,9 @@ pub use crate::inputs::{AmfInput, AmfRefusal};
 pub use crate::link::Link;
 pub use crate::outs::{AmfOut, AmfOuts, SmfAsk, SmfCall};
 pub use crate::procedures::{
-    Accepting, Authentication, Challenging, Deregistering, Phase, Procedure, Purpose,
+    Accepting, Authentication, Challenging, Deregistering, Phase, Procedure, Purpose, Updating,
 };
 pub use crate::requests::{KeptIdentity, Request};
 pub use crate::stepping::{follow, step};
-pub use crate::subscriber::{Gutis, KeptGuti, Offer, Record};
+pub use crate::subscriber::{Gutis, KeptGuti, Offer, OfferKind, Record};
 pub use crate::view::NetView;

@@ -5,6 +5,7 @@ ghost use Rattle.amf_core.specs.Naming.{is_kept_for_another, kept_for, named_by_
 use crate::work::Work;
 use crate::{Amf, Record};
 use arrayvec::ArrayVec;
+use mm_entity::is_same_supi;
 use nas_base::Supi;
 use nas_elements::{Guti, Identity, Suci};
 
@@ -46,7 +47,7 @@ impl Amf {
         ensures { result ≡ is_kept_for_another supi.now guti.now self.now.subscribers }
     {
         for record in self.subscribers.as_slice() {
-            if record.supi.as_slice() != supi.as_slice() && record.kept.has(guti) {
+            if !is_same_supi(&record.supi, supi) && record.kept.has(guti) {
                 return true;
             }
         }

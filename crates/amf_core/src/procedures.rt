@@ -1,6 +1,6 @@
 //! The procedures that a subscriber has open at the AMF. Each owns what it sends again; what takes its place consumes it, so that a timer
-//! of a procedure that has ended finds no owner. T3560 runs while a challenge is open, T3550 while an acceptance is, T3522 while a
-//! de-registration is.
+//! of a procedure that has ended finds no owner. T3560 runs while a challenge is open, T3550 while an acceptance is, T3555 while an update
+//! is, T3522 while a de-registration is.
 ghost use Rattle.std.specs.Prelude.{◌≡◌};
 ghost use Rattle.amf_core.specs.State.{by_registered, challenged_word, pending_of, procedure_word};
 ghost use Rattle.amf_core.specs.Commands.{is_idle};
@@ -74,6 +74,14 @@ pub struct Accepting {
     pub sendings: u8,
 }
 
+/// A new 5G-GUTI that the handset was told and hasn't confirmed, and how often CONFIGURATION UPDATE COMMAND was sent (TS 24.501
+/// clause 5.4.4). Its timer is T3555.
+#[derive(Drop)]
+pub struct Updating {
+    pub guti: Guti,
+    pub sendings: u8,
+}
+
 /// A de-registration by the network, and how often its request was sent (TS 24.501 clause 5.5.2.3). Its timer is T3522.
 #[derive(Drop)]
 pub struct Deregistering {
@@ -86,6 +94,7 @@ pub enum Procedure {
     Idle,
     Challenging(Challenging),
     Accepting(Accepting),
+    Updating(Updating),
     Deregistering(Deregistering),
 }
 
@@ -162,6 +171,18 @@ impl Accepting {
     }
 }
 
+impl Updating {
+    /// An equal value.
+    pub fn copy(&self) -> Updating
+        ensures { result ≡ self.now }
+    {
+        Updating {
+            guti: self.guti.copy(),
+            sendings: self.sendings,
+        }
+    }
+}
+
 impl Procedure {
     /// An equal value.
     pub fn copy(&self) -> Procedure
@@ -171,6 +192,7 @@ impl Procedure {
             Procedure::Idle => Procedure::Idle,
             Procedure::Challenging(challenging) => Procedure::Challenging(challenging.copy()),
             Procedure::Accepting(accepting) => Procedure::Accepting(accepting.copy()),
+            Procedure::Updating(updating) => Procedure::Updating(updating.copy()),
             Procedure::Deregistering(deregistering) => Procedure::Deregistering(Deregistering {
                 sendings: deregistering.sendings,
             }),
@@ -185,6 +207,7 @@ impl Procedure {
             Procedure::Idle => by_registered(registered),
             Procedure::Challenging(challenging) => challenging.purpose.word(registered),
             Procedure::Accepting(_) => AmfWord::Common,
+            Procedure::Updating(_) => AmfWord::Registered,
             Procedure::Deregistering(_) => AmfWord::Deregistering,
         }
     }
@@ -198,7 +221,10 @@ impl Procedure {
                 Phase::Mode(context) => Some(context.challenge),
                 Phase::Auth(_) => None,
             },
-            Procedure::Idle | Procedure::Accepting(_) | Procedure::Deregistering(_) => None,
+            Procedure::Idle
+            | Procedure::Accepting(_)
+            | Procedure::Updating(_)
+            | Procedure::Deregistering(_) => None,
         }
     }
 
@@ -208,8 +234,10 @@ impl Procedure {
     {
         match self {
             Procedure::Idle => true,
-            Procedure::Challenging(_) | Procedure::Accepting(_) | Procedure::Deregistering(_) =>
-                false,
+            Procedure::Challenging(_)
+            | Procedure::Accepting(_)
+            | Procedure::Updating(_)
+            | Procedure::Deregistering(_) => false,
         }
     }
 }

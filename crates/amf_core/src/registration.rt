@@ -26,11 +26,11 @@ const SUCI: Half = Half(1);
 
 /// Whether a link, if there is one, is this one.
 #[tactic(auto, unfolding(nas_base::specs::Branches::per))]
-pub fn is_on(number: u16, link: Option<u16>) -> bool
-    ensures { result ≡ is_on number link }
+pub fn is_on(link: u16, own: Option<u16>) -> bool
+    ensures { result ≡ is_on link own }
 {
-    match link {
-        Some(other) => other == number,
+    match own {
+        Some(other) => other == link,
         None => false,
     }
 }
@@ -88,14 +88,17 @@ fn is_purpose(request: &Request, purpose: &Purpose) -> bool
 }
 
 // Whether an equal request has a challenge on this link already.
-fn is_running(number: u16, request: &Request, procedure: &Procedure) -> bool
-    ensures { result ≡ is_running number request.now procedure.now }
+fn is_running(link: u16, request: &Request, procedure: &Procedure) -> bool
+    ensures { result ≡ is_running link request.now procedure.now }
 {
     match procedure {
         Procedure::Challenging(challenging) => {
-            is_on(number, challenging.link) && is_purpose(request, &challenging.purpose)
+            is_on(link, challenging.link) && is_purpose(request, &challenging.purpose)
         }
-        Procedure::Idle | Procedure::Accepting(_) | Procedure::Deregistering(_) => false,
+        Procedure::Idle
+        | Procedure::Accepting(_)
+        | Procedure::Updating(_)
+        | Procedure::Deregistering(_) => false,
     }
 }
 
@@ -112,7 +115,10 @@ fn equal_acceptance(request: &Request, procedure: &Procedure) -> Option<Acceptin
                 None
             }
         }
-        Procedure::Idle | Procedure::Challenging(_) | Procedure::Deregistering(_) => None,
+        Procedure::Idle
+        | Procedure::Challenging(_)
+        | Procedure::Updating(_)
+        | Procedure::Deregistering(_) => None,
     }
 }
 
@@ -181,21 +187,21 @@ impl<'a> Work<'a> {
     pub fn send_accept(
         &mut self,
         accepting: &Accepting,
-        number: u16,
+        link: u16,
         s: &Record,
     ) -> Result<(), Memory>
-        ensures { OnOk result (self.new ≡ by (accept_sent accepting.now number s.now) self.old) }
+        ensures { OnOk result (self.new ≡ by (accept_sent accepting.now link s.now) self.old) }
     {
         let message = acceptance(self.config(), accepting, s);
-        self.say(number, Protection::Ciphered(s.supi.copy()), message)
+        self.say(link, Protection::Ciphered(s.supi.copy()), message)
     }
 
     // REGISTRATION ACCEPT of a periodic request.
-    fn accept_periodic(&mut self, number: u16, s: &Record) -> Result<(), Memory>
-        ensures { OnOk result (self.new ≡ by (periodic_accepted number s.now) self.old) }
+    fn accept_periodic(&mut self, link: u16, s: &Record) -> Result<(), Memory>
+        ensures { OnOk result (self.new ≡ by (periodic_accepted link s.now) self.old) }
     {
         let message = accept(self.config(), &s.slices, None, None);
-        self.say(number, Protection::Ciphered(s.supi.copy()), message)
+        self.say(link, Protection::Ciphered(s.supi.copy()), message)
     }
 
     // A request of a subscriber whose capability is enough, in the order of its cases.
@@ -203,27 +209,27 @@ impl<'a> Work<'a> {
     fn weigh_request(
         &mut self,
         alloc: Global,
-        number: u16,
+        link: u16,
         passed: &Option<Supi>,
         request: Request,
         s: Record,
     ) -> Result<(), Memory>
-        ensures { OnOk result (self.new ≡ by (request_weighed number passed.now request s) self.old) }
+        ensures { OnOk result (self.new ≡ by (request_weighed link passed.now request s) self.old) }
     {
-        if is_running(number, &request, &s.procedure) {
+        if is_running(link, &request, &s.procedure) {
             return Ok(());
         }
         if let Some(accepting) = equal_acceptance(&request, &s.procedure) {
-            return self.send_accept(&accepting, number, &s);
+            return self.send_accept(&accepting, link, &s);
         }
         if is_granted(passed, &request, &s) {
-            return self.accept_periodic(number, &s);
+            return self.accept_periodic(link, &s);
         }
         let capability = counting_capability(&request, &s);
         self.challenge(
             alloc,
             Purpose::Registration(request),
-            Some(number),
+            Some(link),
             capability,
             s,
         )
@@ -234,28 +240,28 @@ impl<'a> Work<'a> {
     fn requested(
         &mut self,
         alloc: Global,
-        number: u16,
+        link: u16,
         passed: &Option<Supi>,
         request: Request,
         s: Record,
     ) -> Result<(), Memory>
-        ensures { OnOk result (self.new ≡ by (requested number passed.now request s) self.old) }
+        ensures { OnOk result (self.new ≡ by (requested link passed.now request s) self.old) }
     {
         if !is_capable(&request, &s) {
-            return self.reject(number, UE_SECURITY_CAPABILITIES_MISMATCH);
+            return self.reject(link, UE_SECURITY_CAPABILITIES_MISMATCH);
         }
-        self.weigh_request(alloc, number, passed, request, s)
+        self.weigh_request(alloc, link, passed, request, s)
     }
 
     // A request waits for the identity of who sent it, which is asked for.
-    fn want_identity(&mut self, number: u16, request: Request) -> Result<(), Memory>
-        ensures { OnOk result (self.new ≡ by (identity_wanted number request) self.old) }
+    fn want_identity(&mut self, link: u16, request: Request) -> Result<(), Memory>
+        ensures { OnOk result (self.new ≡ by (identity_wanted link request) self.old) }
     {
-        let mut link = self.link(number);
-        link.waiting = Some(request);
-        self.put_link(link)?;
+        let mut record = self.link(link);
+        record.waiting = Some(request);
+        self.put_link(record)?;
         self.answer(
-            number,
+            link,
             Mm::IdentityRequest(IdentityRequest {
                 identity_type: SUCI,
             }),
@@ -267,16 +273,16 @@ impl<'a> Work<'a> {
     pub fn request_by_suci(
         &mut self,
         alloc: Global,
-        number: u16,
+        link: u16,
         passed: &Option<Supi>,
         request: Request,
         s: Option<Record>,
     ) -> Result<(), Memory>
-        ensures { OnOk result (self.new ≡ by (request_by_suci number passed.now request s) self.old) }
+        ensures { OnOk result (self.new ≡ by (request_by_suci link passed.now request s) self.old) }
     {
         match s {
-            Some(s) => self.requested(alloc, number, passed, request, s),
-            None => self.reject(number, ILLEGAL_UE),
+            Some(s) => self.requested(alloc, link, passed, request, s),
+            None => self.reject(link, ILLEGAL_UE),
         }
     }
 
@@ -285,16 +291,16 @@ impl<'a> Work<'a> {
     fn request_by_guti(
         &mut self,
         alloc: Global,
-        number: u16,
+        link: u16,
         passed: &Option<Supi>,
         request: Request,
         s: Option<Record>,
     ) -> Result<(), Memory>
-        ensures { OnOk result (self.new ≡ by (request_by_guti number passed.now request s) self.old) }
+        ensures { OnOk result (self.new ≡ by (request_by_guti link passed.now request s) self.old) }
     {
         match s {
-            Some(s) => self.requested(alloc, number, passed, request, s),
-            None => self.want_identity(number, request),
+            Some(s) => self.requested(alloc, link, passed, request, s),
+            None => self.want_identity(link, request),
         }
     }
 
@@ -302,30 +308,30 @@ impl<'a> Work<'a> {
     fn request_of_suci(
         &mut self,
         alloc: Global,
-        number: u16,
+        link: u16,
         passed: &Option<Supi>,
         request: Request,
         suci: &Suci,
     ) -> Result<(), Memory>
-        ensures { OnOk result (self.new ≡ by (request_by_suci number passed.now request (named_by_suci suci.now self.old.work)) self.old) }
+        ensures { OnOk result (self.new ≡ by (request_by_suci link passed.now request (named_by_suci suci.now self.old.work)) self.old) }
     {
         let s = self.named_by_suci(suci);
-        self.request_by_suci(alloc, number, passed, request, s)
+        self.request_by_suci(alloc, link, passed, request, s)
     }
 
     // A request that names its sender by a 5G-GUTI.
     fn request_of_guti(
         &mut self,
         alloc: Global,
-        number: u16,
+        link: u16,
         passed: &Option<Supi>,
         request: Request,
         guti: &Guti,
     ) -> Result<(), Memory>
-        ensures { OnOk result (self.new ≡ by (request_by_guti number passed.now request (keeper guti.now self.old.work)) self.old) }
+        ensures { OnOk result (self.new ≡ by (request_by_guti link passed.now request (keeper guti.now self.old.work)) self.old) }
     {
         let s = self.keeper(guti);
-        self.request_by_guti(alloc, number, passed, request, s)
+        self.request_by_guti(alloc, link, passed, request, s)
     }
 
     // A request by the identity that it names.
@@ -333,22 +339,22 @@ impl<'a> Work<'a> {
         &mut self,
         alloc: Global,
         request: &RegistrationRequest,
-        number: u16,
+        link: u16,
         passed: &Option<Supi>,
     ) -> Result<(), Memory>
-        ensures { OnOk result (self.new ≡ by (request_by_identity request.now.identity request.now number passed.now) self.old) }
+        ensures { OnOk result (self.new ≡ by (request_by_identity request.now.identity request.now link passed.now) self.old) }
     {
         match &request.identity {
             Identity::Suci(suci) => {
                 let kept = kept(request, KeptIdentity::Suci(copied_suci(suci)));
-                self.request_of_suci(alloc, number, passed, kept, suci)
+                self.request_of_suci(alloc, link, passed, kept, suci)
             }
             Identity::Guti(guti) => {
                 let kept = kept(request, KeptIdentity::Guti(guti.copy()));
-                self.request_of_guti(alloc, number, passed, kept, guti)
+                self.request_of_guti(alloc, link, passed, kept, guti)
             }
             Identity::Stmsi(_) | Identity::Other(_) => {
-                self.reject(number, UE_IDENTITY_CANNOT_BE_DERIVED_BY_THE_NETWORK)
+                self.reject(link, UE_IDENTITY_CANNOT_BE_DERIVED_BY_THE_NETWORK)
             }
         }
     }
@@ -359,14 +365,14 @@ impl<'a> Work<'a> {
         &mut self,
         alloc: Global,
         request: &RegistrationRequest,
-        number: u16,
+        link: u16,
         passed: &Option<Supi>,
     ) -> Result<(), Memory>
-        ensures { OnOk result (self.new ≡ by (registration_requested request.now number passed.now) self.old) }
+        ensures { OnOk result (self.new ≡ by (registration_requested request.now link passed.now) self.old) }
     {
         if is_emergency(request.registration) {
-            return self.reject(number, PROTOCOL_ERROR_UNSPECIFIED);
+            return self.reject(link, PROTOCOL_ERROR_UNSPECIFIED);
         }
-        self.request_by_identity(alloc, request, number, passed)
+        self.request_by_identity(alloc, request, link, passed)
     }
 }

@@ -40,11 +40,11 @@ pub fn commanding_of(procedure: &Procedure) -> Option<Commanding>
 
 /// The same on this link alone.
 #[tactic(auto, unfolding(crate::specs::SecurityMode::commanding_on, nas_base::specs::Branches::chosen, nas_base::specs::Branches::per))]
-pub fn commanding_on(number: u16, procedure: &Procedure) -> Option<Commanding>
-    ensures { result ≡ commanding_on number procedure.now }
+pub fn commanding_on(link: u16, procedure: &Procedure) -> Option<Commanding>
+    ensures { result ≡ commanding_on link procedure.now }
 {
     match commanding_of(procedure) {
-        Some(commanding) if is_on(number, commanding.challenging.link) => Some(commanding),
+        Some(commanding) if is_on(link, commanding.challenging.link) => Some(commanding),
         _ => None,
     }
 }
@@ -112,6 +112,7 @@ fn in_use(context: Context, s: Record) -> Record
     Record {
         procedure: Procedure::Idle,
         in_use: Some(context),
+        updated: None,
         ..s
     }
 }
@@ -119,10 +120,10 @@ fn in_use(context: Context, s: Record) -> Record
 impl<'a> Work<'a> {
     /// SECURITY MODE REJECT.
     #[tactic(auto, unfolding(crate::specs::SecurityMode::mode_rejected, nas_base::specs::Branches::per))]
-    pub fn mode_rejected(&mut self, number: u16, s: Record) -> Result<(), Memory>
-        ensures { OnOk result (self.new ≡ by (mode_rejected number s) self.old) }
+    pub fn mode_rejected(&mut self, link: u16, s: Record) -> Result<(), Memory>
+        ensures { OnOk result (self.new ≡ by (mode_rejected link s) self.old) }
     {
-        match commanding_on(number, &s.procedure) {
+        match commanding_on(link, &s.procedure) {
             Some(_) => self.end_open(s),
             None => Ok(()),
         }
@@ -143,15 +144,15 @@ impl<'a> Work<'a> {
         &mut self,
         purpose: &Purpose,
         whole: Option<Whole>,
-        number: u16,
+        link: u16,
         context: &Context,
         s: Record,
     ) -> Result<(), Memory>
-        ensures { OnOk result (self.new ≡ by (goes_on purpose.now whole number context.now s) self.old) }
+        ensures { OnOk result (self.new ≡ by (goes_on purpose.now whole link context.now s) self.old) }
     {
         match (purpose, whole) {
             (Purpose::Registration(request), Some(whole)) => self.registration_goes_on(
-                number, request, &whole, context, s,
+                link, request, &whole, context, s,
             ),
             _ => Ok(()),
         }
@@ -162,11 +163,11 @@ impl<'a> Work<'a> {
         &mut self,
         alloc: Global,
         complete: &SecurityModeComplete,
-        number: u16,
+        link: u16,
         commanding: &Commanding,
         s: Record,
     ) -> Result<(), Memory>
-        ensures { OnOk result (self.new ≡ by (completed complete.now number commanding.now s) self.old) }
+        ensures { OnOk result (self.new ≡ by (completed complete.now link commanding.now s) self.old) }
     {
         let whole = whole_in(alloc, &complete.message, &s)?;
         self.switch(commanding, &s)?;
@@ -174,7 +175,7 @@ impl<'a> Work<'a> {
         self.go_on_with(
             &commanding.challenging.purpose,
             whole,
-            number,
+            link,
             &context,
             in_use(context, s),
         )
@@ -186,13 +187,13 @@ impl<'a> Work<'a> {
         &mut self,
         alloc: Global,
         complete: &SecurityModeComplete,
-        number: u16,
+        link: u16,
         s: Record,
     ) -> Result<(), Memory>
-        ensures { OnOk result (self.new ≡ by (mode_completed complete.now number s) self.old) }
+        ensures { OnOk result (self.new ≡ by (mode_completed complete.now link s) self.old) }
     {
         match commanding_of(&s.procedure) {
-            Some(commanding) => self.completed(alloc, complete, number, &commanding, s),
+            Some(commanding) => self.completed(alloc, complete, link, &commanding, s),
             None => Ok(()),
         }
     }

@@ -30,26 +30,22 @@ fn service_reject(cause: u8) -> Mm
 impl<'a> Work<'a> {
     /// SERVICE REQUEST that passed.
     #[tactic(auto, unfolding(crate::specs::Service::service_requested, nas_base::specs::Branches::chosen))]
-    pub fn service_requested(&mut self, number: u16, s: &Record) -> Result<(), Memory>
-        ensures { OnOk result (self.new ≡ by (service_requested number s.now) self.old) }
+    pub fn service_requested(&mut self, link: u16, s: &Record) -> Result<(), Memory>
+        ensures { OnOk result (self.new ≡ by (service_requested link s.now) self.old) }
     {
         if s.registered {
-            return self.say(
-                number,
-                Protection::Ciphered(s.supi.copy()),
-                service_accept(),
-            );
+            return self.say(link, Protection::Ciphered(s.supi.copy()), service_accept());
         }
-        self.answer_for(s, number, service_reject(IMPLICITLY_DEREGISTERED))
+        self.answer_for(s, link, service_reject(IMPLICITLY_DEREGISTERED))
     }
 
     /// SERVICE REQUEST that didn't pass, before secure exchange.
     #[tactic(auto, unfolding(crate::specs::Service::service_refused))]
-    pub fn service_refused(&mut self, number: u16) -> Result<(), Memory>
-        ensures { OnOk result (self.new ≡ by (service_refused number) self.old) }
+    pub fn service_refused(&mut self, link: u16) -> Result<(), Memory>
+        ensures { OnOk result (self.new ≡ by (service_refused link) self.old) }
     {
         self.answer(
-            number,
+            link,
             service_reject(UE_IDENTITY_CANNOT_BE_DERIVED_BY_THE_NETWORK),
         )
     }

@@ -20,8 +20,10 @@ use std::alloc::Global;
 ///
 /// # Errors
 ///
-/// Of the two commands alone: `UnknownSupi` exactly where the SUPI isn't kept; else `WrongState` exactly where the word isn't Registered or
-/// a procedure is open; else, of `Authenticate`, `SqnSpent` exactly where SQN_HE is 2^48 - 1. Or `Memory`. All is then as before.
+/// Of the three commands alone: `UnknownSupi` exactly where the SUPI isn't kept; else `WrongState` exactly where the word isn't Registered
+/// or a procedure is open; else, of `Authenticate`, `SqnSpent` exactly where SQN_HE is 2^48 - 1; else, of `Update`, in this order,
+/// `Uncompleted` exactly where the last 5G-GUTI that was offered isn't confirmed, `Updated` exactly where the context in use has had an
+/// update, `TmsiSpent` exactly where no 5G-TMSI is left. Or `Memory`. All is then as before.
 pub fn step(
     alloc: Global,
     amf: &mut Amf,
@@ -73,6 +75,7 @@ impl<'a> Work<'a> {
         let done = match input {
             AmfInput::Authenticate(supi) => return self.authenticate(alloc, supi),
             AmfInput::Deregister(supi) => return self.deregister_by(supi),
+            AmfInput::Update(supi) => return self.update(supi),
             AmfInput::Uplink {
                 link,
                 fresh,

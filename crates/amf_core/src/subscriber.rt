@@ -57,11 +57,21 @@ impl Model for Gutis {
     ghost view = { λ g. g.items.items };
 }
 
-/// The 5G-GUTI that was offered last, and the challenge of the context that it was offered under.
+/// What told a 5G-GUTI that is offered: the messages that confirm it are different ones.
+#[derive(Clone, Copy)]
+pub enum OfferKind {
+    /// REGISTRATION ACCEPT.
+    Accept,
+    /// CONFIGURATION UPDATE COMMAND.
+    Update,
+}
+
+/// The 5G-GUTI that was offered last, the challenge of the context that it was offered under, and by which message.
 #[derive(Drop)]
 pub struct Offer {
     pub guti: Guti,
     pub challenge: Challenge,
+    pub kind: OfferKind,
 }
 
 /// What an AMF keeps of a subscriber.
@@ -75,6 +85,8 @@ pub struct Record {
     pub procedure: Procedure,
     pub kept: Gutis,
     pub offered: Option<Offer>,
+    /// The 5G-TMSI of the update that the context in use has had, if it has had one.
+    pub updated: Option<u32>,
     pub registered: bool,
     /// Whether the last 5G-GUTI that was offered has been confirmed.
     pub completed: bool,
@@ -175,6 +187,7 @@ pub fn copied_offer(offer: &Option<Offer>) -> Option<Offer>
         Some(offer) => Some(Offer {
             guti: offer.guti.copy(),
             challenge: offer.challenge,
+            kind: offer.kind,
         }),
         None => None,
     }
@@ -192,6 +205,7 @@ impl Record {
             procedure: Procedure::Idle,
             kept: Gutis::new(),
             offered: None,
+            updated: None,
             registered: false,
             completed: false,
             link: None,
@@ -212,6 +226,7 @@ impl Record {
             procedure: self.procedure.copy(),
             kept: self.kept.copy(),
             offered: copied_offer(&self.offered),
+            updated: self.updated,
             registered: self.registered,
             completed: self.completed,
             link: self.link,

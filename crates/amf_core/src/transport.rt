@@ -24,7 +24,7 @@ fn session_of(container_type: Half, psi: Option<u8>) -> Option<Psi>
         return None;
     }
     match psi {
-        Some(number) => Psi::from_number(number),
+        Some(link) => Psi::from_number(link),
         None => None,
     }
 }
@@ -34,13 +34,13 @@ impl<'a> Work<'a> {
     fn not_forwarded(
         &mut self,
         transport: UlNasTransport,
-        number: u16,
+        link: u16,
         s: &Record,
     ) -> Result<(), Memory>
-        ensures { OnOk result (self.new ≡ by (not_forwarded transport number s.now) self.old) }
+        ensures { OnOk result (self.new ≡ by (not_forwarded transport link s.now) self.old) }
     {
         self.say(
-            number,
+            link,
             Protection::Ciphered(s.supi.copy()),
             Mm::DlNasTransport(DlNasTransport {
                 container_type: transport.container_type,
@@ -56,14 +56,14 @@ impl<'a> Work<'a> {
     pub fn transported(
         &mut self,
         transport: UlNasTransport,
-        number: u16,
+        link: u16,
         challenge: Challenge,
         s: &Record,
     ) -> Result<(), Memory>
-        ensures { OnOk result (self.new ≡ by (transported transport number challenge s.now) self.old) }
+        ensures { OnOk result (self.new ≡ by (transported transport link challenge s.now) self.old) }
     {
         let Some(psi) = session_of(transport.container_type, transport.psi) else {
-            return self.not_forwarded(transport, number, s);
+            return self.not_forwarded(transport, link, s);
         };
         self.ask(
             SmfAsk::Frame {

@@ -1,7 +1,7 @@
 //! A step while it goes on.
 ghost use Rattle.std.specs.Prelude.{◌≡◌, ◌<◌, ◌^◌, IfOk, OnOk, if◌then◌else◌};
 ghost use Rattle.amf_core.specs.Authentication.{is_right};
-ghost use Rattle.amf_core.specs.Acceptance.{tmsi_of, tmsi_taken};
+ghost use Rattle.amf_core.specs.Offers.{tmsi_of, tmsi_taken};
 ghost use Rattle.amf_core.specs.Challenges.{VectorFits};
 ghost use Rattle.amf_core.specs.Naming.{keeper, short_keeper};
 ghost use Rattle.amf_core.specs.Step.{started};
@@ -117,10 +117,10 @@ impl<'a> Work<'a> {
     }
 
     /// The record of a link.
-    pub fn link(&self, number: u16) -> Link
-        ensures { result ≡ link_of number self.now.work }
+    pub fn link(&self, link: u16) -> Link
+        ensures { result ≡ link_of link self.now.work }
     {
-        self.core.link(number)
+        self.core.link(link)
     }
 
     /// The record of a link takes the place of the one before it.
@@ -175,10 +175,10 @@ impl<'a> Work<'a> {
 
     /// The subscriber that a link last passed or challenged.
     #[tactic(auto, unfolding(nas_base::specs::Branches::per))]
-    pub fn subscriber_of_link(&self, number: u16) -> Option<Record>
-        ensures { result ≡ subscriber_of_link number self.now.work }
+    pub fn subscriber_of_link(&self, link: u16) -> Option<Record>
+        ensures { result ≡ subscriber_of_link link self.now.work }
     {
-        match self.link(number).supi {
+        match self.link(link).supi {
             Some(supi) => self.subscriber(supi.as_slice()),
             None => None,
         }
@@ -213,39 +213,39 @@ impl<'a> Work<'a> {
         ensures { OnOk result (self.new ≡ by (say_on link protection message) self.old) }
     {
         match link {
-            Some(number) => self.say(number, protection, message),
+            Some(link) => self.say(link, protection, message),
             None => Ok(()),
         }
     }
 
     /// An answer that belongs to no procedure.
-    pub fn answer(&mut self, number: u16, message: Mm) -> Result<(), Memory>
-        ensures { OnOk result (self.new ≡ by (answer number message) self.old) }
+    pub fn answer(&mut self, link: u16, message: Mm) -> Result<(), Memory>
+        ensures { OnOk result (self.new ≡ by (answer link message) self.old) }
     {
-        let protection = own_protection(&self.link(number));
-        self.say(number, protection, message)
+        let protection = own_protection(&self.link(link));
+        self.say(link, protection, message)
     }
 
     /// 5GMM STATUS with this cause.
-    pub fn status(&mut self, number: u16, cause: u8) -> Result<(), Memory>
-        ensures { OnOk result (self.new ≡ by (status number cause) self.old) }
+    pub fn status(&mut self, link: u16, cause: u8) -> Result<(), Memory>
+        ensures { OnOk result (self.new ≡ by (status link cause) self.old) }
     {
-        self.answer(number, Mm::FiveGmmStatus(FiveGmmStatus { cause }))
+        self.answer(link, Mm::FiveGmmStatus(FiveGmmStatus { cause }))
     }
 
     /// REGISTRATION REJECT with this cause.
-    pub fn reject(&mut self, number: u16, cause: u8) -> Result<(), Memory>
-        ensures { OnOk result (self.new ≡ by (reject number cause) self.old) }
+    pub fn reject(&mut self, link: u16, cause: u8) -> Result<(), Memory>
+        ensures { OnOk result (self.new ≡ by (reject link cause) self.old) }
     {
-        self.answer(number, Mm::RegistrationReject(RegistrationReject { cause }))
+        self.answer(link, Mm::RegistrationReject(RegistrationReject { cause }))
     }
 
     /// An answer that belongs to the procedure of a subscriber.
-    pub fn answer_for(&mut self, s: &Record, number: u16, message: Mm) -> Result<(), Memory>
-        ensures { OnOk result (self.new ≡ by (answer_for s.now number message) self.old) }
+    pub fn answer_for(&mut self, s: &Record, link: u16, message: Mm) -> Result<(), Memory>
+        ensures { OnOk result (self.new ≡ by (answer_for s.now link message) self.old) }
     {
-        let protection = by_link(&self.link(number), &s.supi);
-        self.say(number, protection, message)
+        let protection = by_link(&self.link(link), &s.supi);
+        self.say(link, protection, message)
     }
 
     /// A timer of a subscriber is started for its duration.

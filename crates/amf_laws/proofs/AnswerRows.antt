@@ -42,6 +42,7 @@ unfolding asking_on
 asking_runs number (procedures.Challenging c) o e = refl
 asking_runs number procedures.Idle o e = absurd (cc)
 asking_runs number (procedures.Accepting a) o e = absurd (cc)
+asking_runs number (procedures.Updating u) o e = absurd (cc)
 asking_runs number (procedures.Deregistering d) o e = absurd (cc)
 
 rejected_moves : {May : List ℕ → Type 0} {b : Beginning} {q : Running} {w : Work} (number : ℕ) (s : Record) → Own May b s
@@ -89,6 +90,7 @@ asking_link_is number (procedures.Challenging c) o =
     (λ on is k link. asking_is_on number c o k on is link) (λ _ is k link. absurd (cc))
 asking_link_is number procedures.Idle o = λ is k link. absurd (cc)
 asking_link_is number (procedures.Accepting a) o = λ is k link. absurd (cc)
+asking_link_is number (procedures.Updating u) o = λ is k link. absurd (cc)
 asking_link_is number (procedures.Deregistering d) o = λ is k link. absurd (cc)
 
 again_may : (May : List ℕ → Type 0) (number : ℕ) (records : List Link) (purpose : Purpose) (c : Challenging) (s : Record)

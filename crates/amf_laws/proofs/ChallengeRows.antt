@@ -1,7 +1,7 @@
 -- The moves of challenges, and of procedures that end.
 use Rattle.amf_core.specs.State.{AmfState}
 use Rattle.std.proofs.Common.{◌≡◌, refl, sym, ap, subst, ℕ, true, List, Option, Some, Result, Ok, Err}
-use Rattle.nas_timers.specs.declared.timer_id.TimerId.TheVariants.{T3522, T3550, T3560}
+use Rattle.nas_timers.specs.declared.timer_id.TimerId.TheVariants.{T3522, T3550, T3555, T3560}
 use Rattle.milenage.specs.Home.{challenge_of, challenged}
 use Rattle.milenage.specs.declared.home.HomeRefusal.{HomeRefusal}
 use Rattle.milenage.specs.declared.vector.Vector.{Vector}
@@ -35,6 +35,7 @@ stopped_of_moves : {May : List ℕ → Type 0} {b : Beginning} {q : Running} {w 
 stopped_of_moves procedures.Idle s e h = h
 stopped_of_moves (procedures.Challenging c) s e h = stops T3560 s e h
 stopped_of_moves (procedures.Accepting a) s e h = stops T3550 s e h
+stopped_of_moves (procedures.Updating u) s e h = stops T3555 s e h
 stopped_of_moves (procedures.Deregistering d) s e h = stops T3522 s e h
 
 pub stopped_moves : {May : List ℕ → Type 0} {b : Beginning} {q : Running} {w : Work} (s : Record) → Own May b s
@@ -118,6 +119,7 @@ stopped_of_stays : (procedure : Procedure) (s : Record) (w : Work) → (stopped_
 stopped_of_stays procedures.Idle s w = refl
 stopped_of_stays (procedures.Challenging c) s w = refl
 stopped_of_stays (procedures.Accepting a) s w = refl
+stopped_of_stays (procedures.Updating u) s w = refl
 stopped_of_stays (procedures.Deregistering d) s w = refl
 
 stopped_links : (s : Record) (w : Work) → links_now (stopped s w) ≡ links_now w

@@ -18,7 +18,8 @@ use Rattle.mm_messages.specs.declared.registration.RegistrationRequest.{Registra
 use Rattle.mm_messages.specs.declared.security_mode.SecurityModeComplete.{SecurityModeComplete}
 use Rattle.amf_core.specs.Authentication.{authentication_failed, responded}
 use Rattle.amf_core.specs.Checks.{Passage, checked_in_use, checked_pending, noted}
-use Rattle.amf_core.specs.Delivery.{action, by_table, check_of, ciphered, failed, failed_request, five_gmm_status, header_of, integrity_protected, is_mm, is_permitted_type, message_of, named_inside, of_link, passed, passed_read, passing, plain, plain_read, received, sender, taken, taken_plain, type_of, under_new_context}
+use Rattle.mm_entity.specs.Heads.{five_gmm_status, header_of, is_mm, type_of}
+use Rattle.amf_core.specs.Delivery.{action, by_table, check_of, ciphered, failed, failed_request, integrity_protected, is_permitted_type, message_of, named_inside, of_link, passed, passed_read, passing, plain, plain_read, received, sender, taken, taken_plain, under_new_context}
 use Rattle.amf_core.specs.Deregistration.{deregistration_accepted}
 use Rattle.amf_core.specs.Identification.{identity_told, told_by, waited}
 use Rattle.amf_core.specs.Naming.{keeper, kept_for, named_by_suci, suci_digits}
@@ -38,6 +39,7 @@ use Rattle.amf_laws.proofs.LinkRecords.{link_is_own, put_supi}
 use Rattle.amf_laws.proofs.Moves.{MayLink, Settled, begins, links_now, own_protection_may}
 use Rattle.amf_laws.proofs.Moves.Moves.{here}
 use Rattle.amf_laws.proofs.RegistrationRows.{completed_settles, deregistration_accepted_settles, deregistration_requested_settles, requested_settles}
+use Rattle.amf_laws.proofs.UpdateRows.{update_completed_settles}
 
 -- whom an identity names, of those that a request's row looks for
 abbrev pub names : Identity → Work → Option Record
@@ -141,6 +143,8 @@ taken_chain number c (mm.RegistrationRequest m) is may named link h =
     registration_chain m number (Some c.subscriber.supi) named link h
 taken_chain number c mm.RegistrationComplete is may named link h =
     does c.subscriber is may (completed_settles c.challenge c.subscriber (refl, λ few. few, may) here) h
+taken_chain number c mm.ConfigurationUpdateComplete is may named link h =
+    does c.subscriber is may (update_completed_settles c.challenge c.subscriber (refl, λ few. few, may) here) h
 taken_chain number c (mm.DeregistrationRequestUeOriginating m) is may named link h =
     does c.subscriber is may (deregistration_requested_settles m number c.subscriber (refl, λ few. few, may) here) h
 taken_chain number c mm.DeregistrationAcceptUeTerminated is may named link h =
@@ -164,7 +168,6 @@ taken_chain number c (mm.DeregistrationRequestUeTerminated m) is may named link 
 taken_chain number c (mm.ServiceReject m) is may named link h = h
 taken_chain number c (mm.ServiceAccept m) is may named link h = h
 taken_chain number c (mm.ConfigurationUpdateCommand m) is may named link h = h
-taken_chain number c mm.ConfigurationUpdateComplete is may named link h = h
 taken_chain number c (mm.AuthenticationRequest m) is may named link h = h
 taken_chain number c mm.AuthenticationReject is may named link h = h
 taken_chain number c (mm.IdentityRequest m) is may named link h = h
@@ -187,7 +190,7 @@ abbrev pub named_in : Result Mm MmRefusal → Work → Option Record
 named_in (Ok m) w = named_by m w
 named_in (Err refusal) w = None
 
-read_chain : {May : List ℕ → Type 0} {u : Received} {w : Work} (read : Result Mm MmRefusal) (octets : List ℕ) (number : ℕ) (c : Check)
+pub read_chain : {May : List ℕ → Type 0} {u : Received} {w : Work} (read : Result Mm MmRefusal) (octets : List ℕ) (number : ℕ) (c : Check)
     → IsCurrent c.subscriber w → May c.subscriber.supi → MayNamed May (named_in read w)
     → MayLink May number (links_now w)
     → Chain May u w → Chain May u (passed_read read octets number c w)

@@ -2,7 +2,9 @@
 use Rattle.std.proofs.Common.{◌≡◌, refl, sym, ap, subst, ◌∙◌, inl, inr, ℕ, Bool, true, false, List, Option, Some, None}
 use Rattle.std.specs.Prelude.{is_some}
 use Rattle.std.specs.Str.{bytes_eq}
-use Rattle.amf_core.specs.Checks.{Passage, checked_in_use, checked_pending, noted, opened, passed_in_use, passed_pending}
+use Rattle.nas_base.specs.declared.count.Dir.TheVariants.{Up}
+use Rattle.mm_entity.specs.Opening.{opened}
+use Rattle.amf_core.specs.Checks.{Passage, checked_in_use, checked_pending, noted, passed_in_use, passed_pending}
 use Rattle.amf_core.specs.SecurityMode.{commanding_of, commanding_on}
 use Rattle.amf_core.specs.State.{subscriber_in}
 use Rattle.amf_core.specs.Work.{Work, put, put_link}
@@ -153,7 +155,7 @@ unfolding checked_in_use
 in_use_is_of number octets s p =
     per_holds (λ (x : Option Passage). x ≡ Some p → IsOf s p) s.in_use None _
     (λ _ e. absurd (cc))
-    (λ context _. per_holds (λ (x : Option Passage). x ≡ Some p → IsOf s p) (opened context octets) None _
+    (λ context _. per_holds (λ (x : Option Passage). x ≡ Some p → IsOf s p) (opened context Up octets) None _
     (λ _ e. absurd (cc))
     (λ o _ e.
     let one : record { check = passed_in_use number context o.count s; message = o.message } ≡ p = cc in
@@ -164,7 +166,7 @@ unfolding checked_pending
 pending_is_of number octets s p =
     per_holds (λ (x : Option Passage). x ≡ Some p → IsOf s p) (commanding_on number s.procedure) None _
     (λ _ e. absurd (cc))
-    (λ m is. per_holds (λ (x : Option Passage). x ≡ Some p → IsOf s p) (opened m.context octets) None _
+    (λ m is. per_holds (λ (x : Option Passage). x ≡ Some p → IsOf s p) (opened m.context Up octets) None _
     (λ _ e. absurd (cc))
     (λ o _ e.
     let one : record { check = passed_pending number m o.count s; message = o.message } ≡ p = cc in

@@ -1,10 +1,12 @@
 -- What goes out tells of timers what was said, and leaves the procedures.
 use Rattle.std.proofs.Common.{◌≡◌, refl, sym, ap, subst, ◌∙◌, ℕ, Bool, true, false, List, [], ◌∷◌, Option, Some, None}
 use Rattle.std.specs.Str.{bytes_eq}
+use Rattle.nas_base.specs.declared.count.Dir.TheVariants.{Down}
 use Rattle.mm_messages.specs.Messages.{spelling}
 use Rattle.mm_messages.specs.declared.message.Mm.{Mm}
 use Rattle.nas_security.specs.declared.sends.Pass.{Pass}
-use Rattle.amf_core.specs.Framing.{Framed, ciphered_for, commanded_for, counted, counted_command, counted_down, framed, framed_all, framed_ciphered, framed_plain, framed_with_new_context, is_too_long, is_unsent, sent}
+use Rattle.mm_entity.specs.Framing.{counted, is_too_long, is_unsent}
+use Rattle.amf_core.specs.Framing.{Framed, ciphered_for, commanded_for, with_record, counted_command, framed, framed_all, framed_ciphered, framed_plain, framed_with_new_context, sent}
 use Rattle.amf_core.specs.SecurityMode.{commanding_of}
 use Rattle.amf_core.specs.State.{subscriber_in}
 use Rattle.amf_core.specs.declared.acts.Act.{Act}
@@ -41,7 +43,7 @@ pub data Sends (protection : Protection) (f : Framed) : Framed → Type 0 where
   unsent : Sends protection f f
   goes : {g : Framed} (number : ℕ) (octets : List ℕ) (pass : Option Pass) → Sends protection f g → Sends protection f (sent number octets pass g)
   counts : {g : Framed} (old new : Record) → IsCounted old new → IsFor protection old.supi → subscriber_in old.supi (framed_now g) ≡ Some old
-      → Sends protection f g → Sends protection f (counted new g)
+      → Sends protection f g → Sends protection f (with_record new g)
 
 plain_sends : {f : Framed} (protection : Protection) (number : ℕ) (message : List ℕ) → Sends protection f (framed_plain number message f)
 plain_sends {f} protection number message =
@@ -52,9 +54,9 @@ ciphered_sends : {f : Framed} (supi : List ℕ) (number : ℕ) (message : List �
     → subscriber_in s.supi (framed_now f) ≡ Some s → Sends (Ciphered supi) f (ciphered_for number message s f)
 ciphered_sends {f} supi number message s is found =
     per_holds (λ (g : Framed). Sends (Ciphered supi) f g) s.in_use _ _ (λ _. plain_sends (Ciphered supi) number message)
-    (λ context _. when_holds (λ (g : Framed). Sends (Ciphered supi) f g) (is_unsent message context) f _ (λ _. unsent)
+    (λ context _. when_holds (λ (g : Framed). Sends (Ciphered supi) f g) (is_unsent message context Down) f _ (λ _. unsent)
     (λ _. goes number _ _
-    (counts s (record s { in_use = Some (counted_down context) }) (record { supi = refl; runs = refl; kept = refl }) is found unsent)))
+    (counts s (record s { in_use = Some (counted context Down) }) (record { supi = refl; runs = refl; kept = refl }) is found unsent)))
 
 -- under the context that is commanded
 pub commanded_runs : (procedure : Procedure) (o : Commanding) → commanding_of procedure ≡ Some o → running_in procedure ≡ challenge_runs
@@ -62,13 +64,14 @@ unfolding commanding_of
 commanded_runs (procedures.Challenging c) o e = refl
 commanded_runs procedures.Idle o e = absurd (cc)
 commanded_runs (procedures.Accepting a) o e = absurd (cc)
+commanded_runs (procedures.Updating u) o e = absurd (cc)
 commanded_runs (procedures.Deregistering d) o e = absurd (cc)
 
 commanded_sends : {f : Framed} (supi : List ℕ) (number : ℕ) (message : List ℕ) (s : Record) → s.supi ≡ supi
     → subscriber_in s.supi (framed_now f) ≡ Some s → Sends (IntegrityProtectedWithNewContext supi) f (commanded_for number message s f)
 commanded_sends {f} supi number message s is found =
     per_holds (λ (g : Framed). Sends (IntegrityProtectedWithNewContext supi) f g) (commanding_of s.procedure) f _ (λ _. unsent)
-    (λ o has. when_holds (λ (g : Framed). Sends (IntegrityProtectedWithNewContext supi) f g) (is_unsent message o.context) f _ (λ _. unsent)
+    (λ o has. when_holds (λ (g : Framed). Sends (IntegrityProtectedWithNewContext supi) f g) (is_unsent message o.context Down) f _ (λ _. unsent)
     (λ _. goes number _ _
     (counts s (record s { procedure = procedures.Challenging (counted_command o) })
     (record { supi = refl; runs = sym (commanded_runs s.procedure o has); kept = refl }) is found unsent)))
@@ -96,7 +99,7 @@ pub record Leaves (x : List ℕ) (r p q : Running) (f : Framed) : Type 0 where
 
 count_runs : (x : List ℕ) (f : Framed) (old new : Record) (own : Bool) → bytes_eq new.supi x ≡ own → new.supi ≡ old.supi
     → running_in new.procedure ≡ running_in old.procedure → subscriber_in old.supi (framed_now f) ≡ Some old
-    → running_for (subscriber_in x (framed_now (counted new f))) ≡ running_for (subscriber_in x (framed_now f))
+    → running_for (subscriber_in x (framed_now (with_record new f))) ≡ running_for (subscriber_in x (framed_now f))
 count_runs x f old new true own e runs found =
     let is_x : old.supi ≡ x = sym e ∙ are_equal new.supi x own in
     let at_x : subscriber_in x (framed_now f) ≡ Some old =

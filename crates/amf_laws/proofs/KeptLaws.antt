@@ -12,7 +12,7 @@ use Rattle.amf_core.specs.declared.acts.Act.{Act}
 use Rattle.amf_core.specs.declared.acts.Act.TheVariants.{Say, Tell}
 use Rattle.amf_core.specs.declared.acts.Protection.{Protection}
 use Rattle.amf_core.specs.declared.inputs.AmfInput.{AmfInput}
-use Rattle.amf_core.specs.declared.inputs.AmfInput.TheVariants.{Uplink, Expired, Authenticate, Deregister, Fence, Sessions, Down, Dropped}
+use Rattle.amf_core.specs.declared.inputs.AmfInput.TheVariants.{Uplink, Expired, Authenticate, Deregister, Update, Fence, Sessions, Down, Dropped}
 use Rattle.amf_core.specs.declared.inputs.AmfRefusal.{AmfRefusal}
 use Rattle.amf_core.specs.declared.subscriber.Record.{Record}
 use Rattle.amf_laws.proofs.Chains.{Chain, Received, kept_now}
@@ -107,6 +107,7 @@ any_have a home now rand (Dropped number) = λ _ _. tt
 any_have a home now rand (Expired supi id) = tt
 any_have a home now rand (Authenticate supi) = tt
 any_have a home now rand (Deregister supi) = tt
+any_have a home now rand (Update supi) = tt
 any_have a home now rand (Fence supi) = tt
 any_have a home now rand (Sessions supi status) = tt
 any_have a home now rand (Down supi psi frame) = tt

@@ -10,7 +10,9 @@ use Rattle.nas_security.proofs.FrameLemmas.{length-frame}
 use Rattle.nas_security.specs.Contexts.{SecurityContext}
 use Rattle.nas_security.specs.Frame.{frame}
 use Rattle.mm_messages.specs.Messages.{spelling}
-use Rattle.amf_core.specs.Framing.{Framed, ciphered_for, commanded_for, counted, counted_command, counted_down, framed, framed_all, framed_ciphered, framed_plain, framed_with_new_context, is_too_long, is_unsent, pass_of, under_in_use, under_new}
+use Rattle.mm_entity.proofs.FramingLaws.{message_fits, next_frame_fits}
+use Rattle.mm_entity.specs.Framing.{is_too_long, is_unsent}
+use Rattle.amf_core.specs.Framing.{Framed, ciphered_for, commanded_for, with_record, counted_command, framed, framed_all, framed_ciphered, framed_plain, framed_with_new_context, under_in_use, under_new}
 use Rattle.amf_core.specs.SecurityMode.{commanding_of}
 use Rattle.amf_core.specs.State.{AmfState, subscriber_in}
 use Rattle.amf_core.specs.Step.{ended, finished, started, step_of, worked}
@@ -78,38 +80,26 @@ comes_fit a w (chains u at_start h) = chain_fits (start_fits a u.first at_start)
 comes_fit a w (settles b s one done) = moves_fit (start_fits a b.first one.at_start) done.moves
 comes_fit a w (stays at_start) = start_fits a w at_start
 
--- a message that isn't too long, and its frame
 out_more : (outs : List AmfOut) (out : AmfOut) → AllFit outs → Fits out → AllFit (outs ++ out ∷ [])
 out_more [] out h new = (new, tt)
 out_more (first ∷ outs) out h new = (h.0, out_more outs out h.1 new)
 
-plain_size : (message : List ℕ) → is_too_long message ≡ false → length message ≤ 4096
-plain_size message short = grind (arith, nat_tests, short)
-
-frame_size : (context : SecurityContext) (count header : ℕ) (message : List ℕ) → is_too_long message ≡ false
-    → length (frame context Down count header message) ≤ 4096
-frame_size context count header message short = grind (arith, nat_tests, short, length-frame context Down count header message)
-
-either_short : (long spent : Bool) → (long || spent) ≡ false → long ≡ false
-either_short true spent e = e
-either_short false spent e = refl
-
 plain_fits : (number : ℕ) (message : List ℕ) (f : Framed) → AllFit f.outs → AllFit (framed_plain number message f).outs
 plain_fits number message f begin =
     when_holds (λ (g : Framed). AllFit g.outs) (is_too_long message) f _ (λ _. begin)
-    (λ short. out_more f.outs (Send (record { link = number; fresh = false; octets = message; pass = None })) begin (plain_size message short))
+    (λ short. out_more f.outs (Send (record { link = number; fresh = false; octets = message; pass = None })) begin (message_fits message short))
 
 in_use_fits : (number : ℕ) (message : List ℕ) (s : Record) (f : Framed) → AllFit f.outs → AllFit (ciphered_for number message s f).outs
 in_use_fits number message s f begin =
     per_holds (λ (g : Framed). AllFit g.outs) s.in_use _ _ (λ _. plain_fits number message f begin)
-    (λ context _. when_holds (λ (g : Framed). AllFit g.outs) (is_unsent message context) f _ (λ _. begin)
-    (λ sent. out_more f.outs _ begin (frame_size context context.down 2 message (either_short (is_too_long message) _ sent))))
+    (λ context _. when_holds (λ (g : Framed). AllFit g.outs) (is_unsent message context Down) f _ (λ _. begin)
+    (λ sent. out_more f.outs _ begin (next_frame_fits context Down 2 message sent)))
 
 command_fits : (number : ℕ) (message : List ℕ) (s : Record) (f : Framed) → AllFit f.outs → AllFit (commanded_for number message s f).outs
 command_fits number message s f begin =
     per_holds (λ (g : Framed). AllFit g.outs) (commanding_of s.procedure) f _ (λ _. begin)
-    (λ o _. when_holds (λ (g : Framed). AllFit g.outs) (is_unsent message o.context) f _ (λ _. begin)
-    (λ sent. out_more f.outs _ begin (frame_size o.context o.context.down 3 message (either_short (is_too_long message) _ sent))))
+    (λ o _. when_holds (λ (g : Framed). AllFit g.outs) (is_unsent message o.context Down) f _ (λ _. begin)
+    (λ sent. out_more f.outs _ begin (next_frame_fits o.context Down 3 message sent)))
 
 act_fits : (act : Act) (f : Framed) → ActFits act → AllFit f.outs → AllFit (framed act f).outs
 unfolding framed framed_ciphered framed_with_new_context

@@ -12,10 +12,13 @@ pub mod MarkLaws
 pub mod Moves
 pub mod OtherLaws
 pub mod PassedLaws
+pub mod PlainLaws
 pub mod Records
 pub mod RegistrationRows
 pub mod StepRows
 pub mod SupiLaws
 pub mod TimerLaws
 pub mod Told
+pub mod ToldLaws
 pub mod UncheckedLaws
+pub mod UpdateRows

@@ -31,7 +31,7 @@ use Rattle.amf_laws.specs.Passing.{SecuresWherePassing, Uplinks, has_passed}
 use Rattle.amf_laws.specs.Timers.{Running}
 
 -- whether a pass is told among what was said
-abbrev act_passed : Act → Bool
+abbrev pub act_passed : Act → Bool
 act_passed (Tell (Passed pass)) = true
 act_passed (Tell (Send message)) = false
 act_passed (Tell (Smf call)) = false
@@ -39,7 +39,7 @@ act_passed (Tell (Start supi id at)) = false
 act_passed (Tell (Stop supi id)) = false
 act_passed (Say number protection message) = false
 
-abbrev acts_passed : List Act → Bool
+abbrev pub acts_passed : List Act → Bool
 acts_passed [] = false
 acts_passed (act ∷ acts) = act_passed act || acts_passed acts
 
@@ -47,7 +47,7 @@ either_more : (first one more : Bool) → (one ≡ true → more ≡ true) → (
 either_more true one more h e = refl
 either_more false one more h e = h e
 
-act_more : (acts : List Act) (act : Act) → acts_passed acts ≡ true → acts_passed (acts ++ act ∷ []) ≡ true
+pub act_more : (acts : List Act) (act : Act) → acts_passed acts ≡ true → acts_passed (acts ++ act ∷ []) ≡ true
 act_more [] act e = absurd (cc)
 act_more (first ∷ acts) act e = either_more (act_passed first) (acts_passed acts) (acts_passed (acts ++ act ∷ [])) (act_more acts act) e
 
@@ -55,7 +55,7 @@ either_last : (first more : Bool) → more ≡ true → (first || more) ≡ true
 either_last true more e = refl
 either_last false more e = e
 
-act_last : (acts : List Act) (pass : Pass) → acts_passed (acts ++ Tell (Passed pass) ∷ []) ≡ true
+pub act_last : (acts : List Act) (pass : Pass) → acts_passed (acts ++ Tell (Passed pass) ∷ []) ≡ true
 act_last [] pass = refl
 act_last (first ∷ acts) pass = either_last (act_passed first) (acts_passed (acts ++ Tell (Passed pass) ∷ [])) (act_last acts pass)
 
@@ -104,7 +104,7 @@ either : (first rest : Bool) → (first || rest) ≡ true → (first ≡ true) �
 either true rest e = inl refl
 either false rest e = inr e
 
-all_tell : (acts : List Act) (f : Framed) → acts_passed acts ≡ true → has_passed (framed_all acts f).outs ≡ true
+pub all_tell : (acts : List Act) (f : Framed) → acts_passed acts ≡ true → has_passed (framed_all acts f).outs ≡ true
 all_tell [] f e = absurd (cc)
 all_tell (act ∷ acts) f e = by_either (either (act_passed act) (acts_passed acts) e) (all_tell acts (framed act f))
   where
@@ -150,7 +150,7 @@ moves_unset n begin (links {p} {q} {w} number supi waiting h) = put_unset n numb
 moves_unset n begin (homes home h) = moves_unset n begin h
 moves_unset n begin (numbers h) = moves_unset n begin h
 
-moves_told : {May : List ℕ → Type 0} {b : Beginning} {p q : Running} {w : Work} → acts_passed b.first.acts ≡ true → Moves May b p q w → acts_passed w.acts ≡ true
+pub moves_told : {May : List ℕ → Type 0} {b : Beginning} {p q : Running} {w : Work} → acts_passed b.first.acts ≡ true → Moves May b p q w → acts_passed w.acts ≡ true
 unfolding put put_link
 moves_told begin here = begin
 moves_told begin (said {p} {q} {w} number protection message may h) =

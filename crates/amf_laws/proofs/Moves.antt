@@ -4,7 +4,7 @@ use Rattle.nas_elements.specs.declared.guti.Guti.{Guti}
 use Rattle.nas_timers.specs.declared.timer_id.TimerId.{TimerId}
 use Rattle.milenage.specs.Home.{HomeRecord}
 use Rattle.mm_messages.specs.declared.message.Mm.{Mm}
-use Rattle.amf_core.specs.Acceptance.{tmsi_taken}
+use Rattle.amf_core.specs.Offers.{tmsi_taken}
 use Rattle.amf_core.specs.State.{link_in}
 use Rattle.amf_core.specs.Work.{Work, ask, by_link, link_of, own_protection, put, put_home, put_link, say, start, stop}
 use Rattle.amf_core.specs.declared.acts.Protection.{Protection}

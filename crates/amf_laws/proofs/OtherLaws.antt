@@ -1,6 +1,7 @@
 -- The subscribers that an input doesn't concern.
 use Rattle.std.proofs.Common.{◌≡◌, refl, sym, ap, subst, ◌∙◌, ◌⊎◌, inl, inr, ℕ, Bool, true, false, List, [], ◌∷◌, ◌++◌, drop, Option, Some, None, Result, Ok, Err, if◌then◌else◌}
 use Rattle.std.specs.Str.{bytes_eq}
+use Rattle.nas_base.specs.declared.count.Dir.TheVariants.{Up}
 use Rattle.nas_timers.specs.Durations.{deadline_after, duration_of}
 use Rattle.milenage.specs.Home.{HomeRecord}
 use Rattle.nas_elements.specs.declared.guti.Guti.{Guti}
@@ -10,7 +11,8 @@ use Rattle.mm_messages.specs.Messages.{mm_in}
 use Rattle.mm_messages.specs.declared.message.Mm.{Mm}
 use Rattle.mm_messages.specs.declared.message.Mm.TheVariants as mm
 use Rattle.mm_messages.specs.declared.message.MmRefusal.{MmRefusal}
-use Rattle.amf_core.specs.Checks.{Passage, checked_in_use, checked_pending, noted, opened, passed_in_use, passed_pending}
+use Rattle.mm_entity.specs.Opening.{opened}
+use Rattle.amf_core.specs.Checks.{Passage, checked_in_use, checked_pending, noted, passed_in_use, passed_pending}
 use Rattle.amf_core.specs.Delivery.{freshened, message_of, named_inside, sender}
 use Rattle.amf_core.specs.Framing.{Framed, framed, framed_all}
 use Rattle.amf_core.specs.Keyed.{found}
@@ -24,7 +26,7 @@ use Rattle.amf_core.specs.declared.acts.Act.TheVariants.{Say, Tell}
 use Rattle.amf_core.specs.declared.acts.Protection.{Protection}
 use Rattle.amf_core.specs.declared.acts.Protection.TheVariants.{Plain, Ciphered, IntegrityProtectedWithNewContext}
 use Rattle.amf_core.specs.declared.inputs.AmfInput.{AmfInput}
-use Rattle.amf_core.specs.declared.inputs.AmfInput.TheVariants.{Uplink, Expired, Authenticate, Deregister, Fence, Sessions, Down, Dropped}
+use Rattle.amf_core.specs.declared.inputs.AmfInput.TheVariants.{Uplink, Expired, Authenticate, Deregister, Update, Fence, Sessions, Down, Dropped}
 use Rattle.amf_core.specs.declared.inputs.AmfRefusal.{AmfRefusal}
 use Rattle.amf_core.specs.declared.link.Link.{Link}
 use Rattle.amf_core.specs.declared.outs.AmfOut.TheVariants.{Passed, Smf, Start, Stop}
@@ -263,7 +265,7 @@ unfolding checked_in_use
 in_use_opens a number octets s p among =
     per_holds (λ (x : Option Passage). x ≡ Some p → OpenTo a number octets p.message) s.in_use None _
     (λ _ e. absurd (cc))
-    (λ context has. per_holds (λ (x : Option Passage). x ≡ Some p → OpenTo a number octets p.message) (opened context octets) None _
+    (λ context has. per_holds (λ (x : Option Passage). x ≡ Some p → OpenTo a number octets p.message) (opened context Up octets) None _
     (λ _ e. absurd (cc))
     (λ o is e.
     let one : record { check = passed_in_use number context o.count s; message = o.message } ≡ p = cc in
@@ -276,7 +278,7 @@ unfolding checked_pending
 pending_opens a number octets s p among =
     per_holds (λ (x : Option Passage). x ≡ Some p → OpenTo a number octets p.message) (commanding_on number s.procedure) None _
     (λ _ e. absurd (cc))
-    (λ m has. per_holds (λ (x : Option Passage). x ≡ Some p → OpenTo a number octets p.message) (opened m.context octets) None _
+    (λ m has. per_holds (λ (x : Option Passage). x ≡ Some p → OpenTo a number octets p.message) (opened m.context Up octets) None _
     (λ _ e. absurd (cc))
     (λ o is e.
     let one : record { check = passed_pending number m o.count s; message = o.message } ≡ p = cc in
@@ -404,6 +406,7 @@ concerns_have a home now rand (Dropped number) = λ supi e. e
 concerns_have a home now rand (Expired supi id) = refl
 concerns_have a home now rand (Authenticate supi) = refl
 concerns_have a home now rand (Deregister supi) = refl
+concerns_have a home now rand (Update supi) = refl
 concerns_have a home now rand (Fence supi) = refl
 concerns_have a home now rand (Sessions supi status) = refl
 concerns_have a home now rand (Down supi psi frame) = refl

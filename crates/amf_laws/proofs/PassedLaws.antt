@@ -2,13 +2,12 @@
 use Rattle.std.proofs.Common.{◌≡◌, refl, sym, ap, subst, inl, inr, ◌<◌, ℕ, Bool, false, List, [], ◌∷◌, ◌++◌, get_or, Option, Some, None}
 use Rattle.nas_base.specs.declared.count.Dir.TheVariants.{Up}
 use Rattle.milenage.specs.Home.{HomeRecord}
-use Rattle.nas_security.proofs.PassingLaws.{passed_where_passing}
 use Rattle.nas_security.specs.Contexts.{SecurityContext}
-use Rattle.nas_security.specs.Passing.{Passes, judged}
+use Rattle.nas_security.specs.Passing.{Passes}
 use Rattle.nas_security.specs.declared.sends.Pass.{Pass}
-use Rattle.nas_security.specs.declared.verdicts.Verdict.{Verdict}
-use Rattle.nas_security.specs.declared.verdicts.Verdict.TheVariants as verdicts
-use Rattle.amf_core.specs.Checks.{Opened, Passage, checked_in_use, checked_pending, opened, opened_by, passed_in_use, passed_pending}
+use Rattle.mm_entity.proofs.OpeningLaws.{something_passes}
+use Rattle.mm_entity.specs.Opening.{Opened, opened}
+use Rattle.amf_core.specs.Checks.{Passage, checked_in_use, checked_pending, passed_in_use, passed_pending}
 use Rattle.amf_core.specs.Delivery.{freshened, received}
 use Rattle.amf_core.specs.Framing.{Framed, framed, framed_all}
 use Rattle.amf_core.specs.SecurityMode.{commanding_on}
@@ -116,24 +115,6 @@ chain_passed P {May} {u} begin checked_so (passes s p is may checked) =
     act_more P u.first.acts (Tell (Passed (pass_told p))) begin (checked_so s p is.among checked)
 chain_passed P begin checked_so (does s is may done h) = moves_passed P (chain_passed P begin checked_so h) done.moves
 
--- a judgement that opens is `Passed`
-opened_is_passed : (v : Verdict × List ℕ) (o : Opened) → opened_by v ≡ Some o
-    → (header : ℕ) × (v ≡ (verdicts.Passed o.count header, o.message))
-opened_is_passed (verdicts.Passed count header, message) o e =
-    let same : record { count = count; message = message } ≡ o = cc in
-    (header, ap (λ (p : Opened). (verdicts.Passed p.count header, p.message)) same)
-opened_is_passed (verdicts.Plain, message) o e = absurd (cc)
-opened_is_passed (verdicts.Malformed at, message) o e = absurd (cc)
-opened_is_passed (verdicts.Spent next, message) o e = absurd (cc)
-opened_is_passed (verdicts.Failed want got, message) o e = absurd (cc)
-
-pub something_passes : (context : SecurityContext) (octets : List ℕ) (o : Opened) → get_or octets 6 0 < 256
-    → opened context octets ≡ Some o → (header : ℕ) × Passes context Up octets o.count header o.message
-unfolding opened
-something_passes context octets o small e =
-    let are = opened_is_passed (judged context Up octets) o e in
-    (are.0, (passed_where_passing context Up octets small o.count are.0 o.message).1 are.1)
-
 -- what was checked passes
 in_use_passes : (a : AmfState) (number : ℕ) (octets : List ℕ) (s : Record) (p : Passage) → get_or octets 6 0 < 256
     → IsAmong s a.subscribers → checked_in_use number octets s ≡ Some p → WasChecked a number octets (pass_told p)
@@ -141,11 +122,11 @@ unfolding checked_in_use
 in_use_passes a number octets s p small among =
     per_holds (λ (x : Option Passage). x ≡ Some p → WasChecked a number octets (pass_told p)) s.in_use None _
     (λ _ e. absurd (cc))
-    (λ context has. per_holds (λ (x : Option Passage). x ≡ Some p → WasChecked a number octets (pass_told p)) (opened context octets) None _
+    (λ context has. per_holds (λ (x : Option Passage). x ≡ Some p → WasChecked a number octets (pass_told p)) (opened context Up octets) None _
     (λ _ e. absurd (cc))
     (λ o is e.
     let one : record { check = passed_in_use number context o.count s; message = o.message } ≡ p = cc in
-    let are = something_passes context octets o small is in
+    let are = something_passes context Up octets o small is in
     subst (λ (y : Passage). WasChecked a number octets (pass_told y)) one
     (record {
       subscriber = s;
@@ -165,11 +146,11 @@ unfolding checked_pending
 pending_passes a number octets s p small among =
     per_holds (λ (x : Option Passage). x ≡ Some p → WasChecked a number octets (pass_told p)) (commanding_on number s.procedure) None _
     (λ _ e. absurd (cc))
-    (λ m has. per_holds (λ (x : Option Passage). x ≡ Some p → WasChecked a number octets (pass_told p)) (opened m.context octets) None _
+    (λ m has. per_holds (λ (x : Option Passage). x ≡ Some p → WasChecked a number octets (pass_told p)) (opened m.context Up octets) None _
     (λ _ e. absurd (cc))
     (λ o is e.
     let one : record { check = passed_pending number m o.count s; message = o.message } ≡ p = cc in
-    let are = something_passes m.context octets o small is in
+    let are = something_passes m.context Up octets o small is in
     subst (λ (y : Passage). WasChecked a number octets (pass_told y)) one
     (record {
       subscriber = s;

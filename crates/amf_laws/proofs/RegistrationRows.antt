@@ -2,11 +2,12 @@
 use Rattle.std.proofs.Common.{◌≡◌, refl, subst, ◌&&◌, ℕ, ◌^◌, true, nat_lt, List, [], ◌∷◌, arith, Option, Some}
 use Rattle.nas_timers.specs.declared.timer_id.TimerId.TheVariants.{T3522, T3550}
 use Rattle.nas_elements.specs.declared.guti.Guti.{Guti}
-use Rattle.nas_security.specs.Contexts.{SecurityContext, is_challenge}
+use Rattle.nas_security.specs.Contexts.{SecurityContext}
 use Rattle.nas_security.specs.declared.challenges.Challenge.{Challenge}
 use Rattle.mm_messages.specs.declared.deregistration.DeregistrationRequestUeOriginating.{DeregistrationRequestUeOriginating}
-use Rattle.amf_core.specs.Acceptance.{acceptance_ended, confirmed, is_initial, kept_with, new_guti, offered, opened_acceptance, registration_completed, registration_goes_on, released, tmsi_of, told_sessions}
+use Rattle.amf_core.specs.Acceptance.{acceptance_ended, is_initial, kept_with, offered, opened_acceptance, registration_completed, registration_goes_on, released, told_sessions}
 use Rattle.amf_core.specs.Deregistration.{deregistered, deregistration_accepted, deregistration_put, deregistration_requested, is_deregistering, unregistered}
+use Rattle.amf_core.specs.Offers.{confirmed, new_guti, offered_by, tmsi_of}
 use Rattle.amf_core.specs.Registration.{counting_capability, equal_acceptance, is_capable, is_granted, is_on, is_running, request_weighed, requested}
 use Rattle.amf_core.specs.Naming.{is_any, is_guti}
 use Rattle.amf_core.specs.Work.{Work, config_of, link_of}
@@ -19,6 +20,7 @@ use Rattle.amf_core.specs.declared.procedures.Procedure.{Procedure}
 use Rattle.amf_core.specs.declared.procedures.Procedure.TheVariants as procedures
 use Rattle.amf_core.specs.declared.procedures.Purpose.TheVariants.{Registration}
 use Rattle.amf_core.specs.declared.requests.Request.{Request}
+use Rattle.amf_core.specs.declared.subscriber.OfferKind.TheVariants.{Accept}
 use Rattle.amf_core.specs.declared.subscriber.Record.{Record}
 use Rattle.nas_base.proofs.Branching.{per_holds, when_holds}
 use Rattle.amf_laws.proofs.ChallengeRows.{challenge_settles, ended_moves, say_on_moves, stopped_moves}
@@ -86,18 +88,18 @@ acceptance_ended_settles : {May : List ℕ → Type 0} {b : Beginning} {w : Work
 acceptance_ended_settles (procedures.Accepting a) s e is h = settled (ended_moves s e h)
 acceptance_ended_settles procedures.Idle s e is h = settled (puts s e h)
 acceptance_ended_settles (procedures.Challenging c) s e is h = settled (puts s e h)
+acceptance_ended_settles (procedures.Updating u) s e is h = settled (puts s e h)
 acceptance_ended_settles (procedures.Deregistering d) s e is h = settled (puts s e h)
 
-one_few : (g : Guti) → AreFew (g ∷ [])
+pub one_few : (g : Guti) → AreFew (g ∷ [])
 one_few g = omega arith
 
 pub completed_settles : {May : List ℕ → Type 0} {b : Beginning} {w : Work} (challenge : Challenge) (s : Record) → Own May b s
     → Moves May b (running_in s.procedure) (running_in s.procedure) w → Settled May b (registration_completed challenge s w)
 unfolding registration_completed
 completed_settles {May} {b} {w} challenge s e h =
-    per_holds (λ (x : Work). Settled May b x) s.offered w _ (λ _. settled h)
-    (λ o _. when_holds (λ (x : Work). Settled May b x) (is_challenge o.challenge challenge) _ _
-    (λ _. acceptance_ended_settles s.procedure (confirmed o.guti s) (e.0, λ kept. one_few o.guti, e.2) refl h) (λ _. settled h))
+    per_holds (λ (x : Work). Settled May b x) (offered_by Accept challenge s) w _ (λ _. settled h)
+    (λ g _. acceptance_ended_settles s.procedure (confirmed g s) (e.0, λ kept. one_few g, e.2) refl h)
 
 -- a de-registration
 deregistered_moves : {May : List ℕ → Type 0} {b : Beginning} {q : Running} {w : Work} (s : Record) → Own May b s

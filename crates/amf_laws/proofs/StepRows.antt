@@ -3,7 +3,7 @@ use Rattle.std.proofs.Common.{◌≡◌, refl, sym, ap, subst, ◌∙◌, ℕ, f
 use Rattle.nas_base.specs.Branches.{per}
 use Rattle.nas_timers.specs.declared.timer_id.TimerId.{TimerId}
 use Rattle.milenage.specs.Home.{HomeRecord}
-use Rattle.amf_core.specs.Commands.{authenticate, authenticated, deregister, left}
+use Rattle.amf_core.specs.Commands.{authenticate, authenticated, deregister, left, update, updated}
 use Rattle.amf_core.specs.Delivery.{freshened}
 use Rattle.amf_core.specs.Events.{carried_down, dropped, expired, fenced, fenced_of, link_lost_of, lost_for, of_supi, sessions_told, sessions_told_of}
 use Rattle.amf_core.specs.Framing.{Framed, framed, framed_all}
@@ -15,7 +15,7 @@ use Rattle.amf_core.specs.declared.acts.Act.{Act}
 use Rattle.amf_core.specs.declared.acts.Act.TheVariants.{Say, Tell}
 use Rattle.amf_core.specs.declared.acts.Protection.{Protection}
 use Rattle.amf_core.specs.declared.inputs.AmfInput.{AmfInput}
-use Rattle.amf_core.specs.declared.inputs.AmfInput.TheVariants.{Uplink, Expired, Authenticate, Deregister, Fence, Sessions, Down, Dropped}
+use Rattle.amf_core.specs.declared.inputs.AmfInput.TheVariants.{Uplink, Expired, Authenticate, Deregister, Update, Fence, Sessions, Down, Dropped}
 use Rattle.amf_core.specs.declared.inputs.AmfRefusal.{AmfRefusal}
 use Rattle.amf_core.specs.declared.link.Link.{Link}
 use Rattle.amf_core.specs.declared.subscriber.Record.{Record}
@@ -23,7 +23,7 @@ use Rattle.amf_laws.proofs.AnswerRows.{brought_down_moves}
 use Rattle.nas_base.proofs.Branching.{per_holds}
 use Rattle.amf_laws.proofs.Chains.{Chain, Received, kept_now}
 use Rattle.amf_laws.proofs.DeliveryRows.{MayReceive, received_chain}
-use Rattle.amf_laws.proofs.EventRows.{SettledBy, authenticated_settles, expired_settles, fenced_settles, left_settles, lost_settles, sessions_settle}
+use Rattle.amf_laws.proofs.EventRows.{SettledBy, authenticated_settles, expired_settles, fenced_settles, left_settles, lost_settles, sessions_settle, updated_settles}
 use Rattle.amf_laws.proofs.FramedFit.{Sends, says_send}
 use Rattle.amf_laws.proofs.FramedFit.Sends.{unsent, goes, counts}
 use Rattle.amf_laws.proofs.Moves.{Beginning, Settled, begins, settled}
@@ -59,6 +59,7 @@ MayHave May a home now rand (Dropped number) = (supi : List ℕ) → (link_in nu
 MayHave May a home now rand (Expired supi id) = May supi
 MayHave May a home now rand (Authenticate supi) = May supi
 MayHave May a home now rand (Deregister supi) = May supi
+MayHave May a home now rand (Update supi) = May supi
 MayHave May a home now rand (Fence supi) = May supi
 MayHave May a home now rand (Sessions supi status) = May supi
 MayHave May a home now rand (Down supi psi frame) = May supi
@@ -124,7 +125,7 @@ at_first a home now rand = record { acts = refl; kept = refl }
 -- the row of each input
 pub input_comes : (May : List ℕ → Type 0) (a : AmfState) (home : List HomeRecord) (now : ℕ) (rand : List ℕ) (input : AmfInput)
     → MayHave May a home now rand input → ComesBy May a (worked input (started a home now rand))
-unfolding worked authenticate deregister fenced sessions_told carried_down dropped
+unfolding worked authenticate deregister update fenced sessions_told carried_down dropped
 input_comes May a home now rand (Uplink number fresh octets) may =
     let u : Received = record { number = number; octets = octets; first = freshened fresh number (started a home now rand) } in
     chains u (freshened_at_start a home now rand fresh number) (received_chain u may)
@@ -136,6 +137,10 @@ input_comes May a home now rand (Authenticate supi) may =
 input_comes May a home now rand (Deregister supi) may =
     of_supi_comes_by May a supi left _ (started a home now rand) (at_first a home now rand) may
     (λ s m. left_settles {May = May} {b = begins s (started a home now rand)} {q = running_in s.procedure} {w = started a home now rand} s
+    (refl, λ few. few, m) here)
+input_comes May a home now rand (Update supi) may =
+    of_supi_comes_by May a supi updated _ (started a home now rand) (at_first a home now rand) may
+    (λ s m. updated_settles {May = May} {b = begins s (started a home now rand)} {q = running_in s.procedure} {w = started a home now rand} s
     (refl, λ few. few, m) here)
 input_comes May a home now rand (Fence supi) may =
     of_supi_comes May a supi fenced_of (started a home now rand) (at_first a home now rand) may

@@ -5,7 +5,7 @@ use Rattle.nas_base.specs.Branches.{per}
 use Rattle.nas_timers.specs.declared.timer_id.TimerId.{TimerId}
 use Rattle.nas_timers.specs.declared.timer_id.TimerId.TheVariants.{T3510, T3516, T3517, T3521, T3522, T3550, T3555, T3560, T3580, T3581, T3582, T3591, T3592}
 use Rattle.milenage.specs.Home.{HomeRecord}
-use Rattle.amf_core.specs.Commands.{authenticate, authenticated, deregister, left}
+use Rattle.amf_core.specs.Commands.{authenticate, authenticated, deregister, left, update, updated}
 use Rattle.amf_core.specs.Delivery.{freshened, received}
 use Rattle.amf_core.specs.Events.{carried_down, dropped, expired, fenced, fenced_of, link_lost_of, lost_for, of_supi, sessions_told, sessions_told_of}
 use Rattle.amf_core.specs.Framing.{Framed}
@@ -14,14 +14,14 @@ use Rattle.amf_core.specs.Step.{ended, finished, framed_of, started, step_of, wo
 use Rattle.amf_core.specs.Transport.{brought_down}
 use Rattle.amf_core.specs.Work.{Work, link_of, put_link, subscriber}
 use Rattle.amf_core.specs.declared.inputs.AmfInput.{AmfInput}
-use Rattle.amf_core.specs.declared.inputs.AmfInput.TheVariants.{Uplink, Expired, Authenticate, Deregister, Fence, Sessions, Down, Dropped}
+use Rattle.amf_core.specs.declared.inputs.AmfInput.TheVariants.{Uplink, Expired, Authenticate, Deregister, Update, Fence, Sessions, Down, Dropped}
 use Rattle.amf_core.specs.declared.inputs.AmfRefusal.{AmfRefusal}
 use Rattle.amf_core.specs.declared.subscriber.Record.{Record}
 use Rattle.amf_laws.proofs.AnswerRows.{brought_down_moves}
 use Rattle.nas_base.proofs.Branching.{per_holds, when_holds}
 use Rattle.amf_laws.proofs.Chains.{Chain, Received, found_before, kept_now}
 use Rattle.amf_laws.proofs.DeliveryRows.{MayReceive, received_chain}
-use Rattle.amf_laws.proofs.EventRows.{SettledBy, authenticated_settles, expired_settles, fenced_settles, left_settles, lost_settles, sessions_settle}
+use Rattle.amf_laws.proofs.EventRows.{SettledBy, authenticated_settles, expired_settles, fenced_settles, left_settles, lost_settles, sessions_settle, updated_settles}
 use Rattle.amf_laws.proofs.FitLaws.{Fits, IsBegun, chain_distinct, chain_fits, fit_begins, moves_distinct, settled_fits}
 use Rattle.amf_laws.proofs.FramedFit.{Leaves, acts_distinct, acts_leave}
 use Rattle.amf_laws.proofs.Moves.{Beginning, Settled, begins, settled}
@@ -165,7 +165,7 @@ lost_left x r supi number w h =
 input_left : (x : List ℕ) (running : List ℕ → Running) (a : AmfState) (home : List HomeRecord) (now : ℕ) (rand : List ℕ) (input : AmfInput)
     → AreDistinct a.subscribers → running x ≡ running_of x a
     → LeftBy x (expired_by input running x) (worked input (started a home now rand))
-unfolding worked authenticate deregister fenced sessions_told carried_down dropped
+unfolding worked authenticate deregister update fenced sessions_told carried_down dropped
 input_left x running a home now rand (Uplink link fresh octets) distinct e =
     received_left x (running x) link octets (freshened fresh link (started a home now rand))
     (freshened_left x (running x) fresh link (started a home now rand) (begin x (running x) a home now rand distinct e))
@@ -177,6 +177,9 @@ input_left x running a home now rand (Authenticate supi) distinct e =
 input_left x running a home now rand (Deregister supi) distinct e =
     of_supi_left_by x (running x) supi left _ (started a home now rand) (begin x (running x) a home now rand distinct e)
     (λ s. left_settles {May = λ (y : List ℕ). Unit {0}} {b = begins s (started a home now rand)} {q = running_in s.procedure} {w = started a home now rand} s (refl, λ few. few, tt) here)
+input_left x running a home now rand (Update supi) distinct e =
+    of_supi_left_by x (running x) supi updated _ (started a home now rand) (begin x (running x) a home now rand distinct e)
+    (λ s. updated_settles {May = λ (y : List ℕ). Unit {0}} {b = begins s (started a home now rand)} {q = running_in s.procedure} {w = started a home now rand} s (refl, λ few. few, tt) here)
 input_left x running a home now rand (Fence supi) distinct e =
     of_supi_left x (running x) supi fenced_of (started a home now rand) (begin x (running x) a home now rand distinct e)
     (λ s. fenced_settles s (refl, λ few. few, tt) here)

@@ -1,4 +1,4 @@
--- Who is kept, and how many 5G-GUTIs for each (TS 24.501 clause 5.5.1.2.4).
+-- Who is kept, and how many 5G-GUTIs for each (TS 24.501 clauses 5.4.4 and 5.5.1.2.4).
 use Rattle.std.specs.Prelude.{◌≡◌, ◌≤◌, ℕ, List, [], ◌∷◌, length, Result, Ok, Err}
 use Rattle.nas_elements.specs.declared.guti.Guti.{Guti}
 use Rattle.amf_core.specs.State.{AmfState}

@@ -1,17 +1,18 @@
 -- Whom an input concerns, and that no other subscriber changes by it.
 use Rattle.std.specs.Prelude.{◌≡◌, ◌⊎◌, ℕ, Bool, true, List, drop, Option, Some, None, Result, Ok, Err}
+use Rattle.nas_base.specs.declared.count.Dir.TheVariants.{Up}
 use Rattle.nas_elements.specs.declared.identity.Identity.{Identity}
 use Rattle.nas_elements.specs.declared.identity.Identity.TheVariants as identities
 use Rattle.nas_security.specs.Contexts.{SecurityContext}
 use Rattle.mm_messages.specs.Messages.{mm_in}
 use Rattle.mm_messages.specs.declared.message.Mm.{Mm}
 use Rattle.mm_messages.specs.declared.message.Mm.TheVariants as mm
-use Rattle.amf_core.specs.Checks.{opened}
+use Rattle.mm_entity.specs.Opening.{opened}
 use Rattle.amf_core.specs.Naming.{keeps_guti, keeps_stmsi, suci_digits}
 use Rattle.amf_core.specs.State.{AmfState, link_in, subscriber_in}
 use Rattle.amf_core.specs.Step.{Stepped}
 use Rattle.amf_core.specs.declared.inputs.AmfInput.{AmfInput}
-use Rattle.amf_core.specs.declared.inputs.AmfInput.TheVariants.{Uplink, Expired, Authenticate, Deregister, Fence, Sessions, Down, Dropped}
+use Rattle.amf_core.specs.declared.inputs.AmfInput.TheVariants.{Uplink, Expired, Authenticate, Deregister, Update, Fence, Sessions, Down, Dropped}
 use Rattle.amf_core.specs.declared.inputs.AmfRefusal.{AmfRefusal}
 use Rattle.amf_core.specs.declared.subscriber.Record.{Record}
 use Rattle.amf_laws.specs.Passing.{IsAmong, IsContextOf}
@@ -45,7 +46,7 @@ pub record OpenTo (a : AmfState) (number : ℕ) (octets message : List ℕ) : Ty
   pub count : ℕ
   pub is_kept : IsAmong subscriber a.subscribers
   pub is_context : IsContextOf number context subscriber
-  pub opens : opened context octets ≡ Some (record { count = count; message = message })
+  pub opens : opened context Up octets ≡ Some (record { count = count; message = message })
 
 -- A message can be read in octets: they are it, they are a frame that isn't ciphered and holds it, or they pass a check and open to it.
 abbrev pub IsReadIn : AmfState → ℕ → List ℕ → Mm → Type 0
@@ -71,6 +72,7 @@ Concerns a (Dropped number) supi = IsLinked a number supi
 Concerns a (Expired other id) supi = supi ≡ other
 Concerns a (Authenticate other) supi = supi ≡ other
 Concerns a (Deregister other) supi = supi ≡ other
+Concerns a (Update other) supi = supi ≡ other
 Concerns a (Fence other) supi = supi ≡ other
 Concerns a (Sessions other status) supi = supi ≡ other
 Concerns a (Down other psi frame) supi = supi ≡ other

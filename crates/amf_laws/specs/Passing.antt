@@ -6,14 +6,19 @@ use Rattle.milenage.specs.Home.{HomeRecord}
 use Rattle.nas_security.specs.Contexts.{SecurityContext}
 use Rattle.nas_security.specs.Passing.{Passes}
 use Rattle.nas_security.specs.declared.sends.Pass.{Pass}
+use Rattle.collision_rules.specs.Plain.{permitted_amf}
+use Rattle.mm_messages.specs.KindOf.{kind_of}
 use Rattle.mm_messages.specs.Messages.{mm_in, spelling}
 use Rattle.mm_messages.specs.declared.message.Mm.{Mm}
 use Rattle.mm_messages.specs.declared.message.Mm.TheVariants as mm
+use Rattle.mm_messages.specs.declared.message.MmRefusal.TheVariants as refusals
 use Rattle.mm_messages.specs.declared.service.ServiceRequest.{ServiceRequest}
-use Rattle.amf_core.specs.Delivery.{header_of, is_mm}
+use Rattle.mm_entity.specs.Heads.{header_of, is_mm, type_of}
 use Rattle.amf_core.specs.SecurityMode.{commanding_on}
-use Rattle.amf_core.specs.State.{AmfState, link_in}
-use Rattle.amf_core.specs.Step.{Stepped, step_of}
+use Rattle.amf_core.specs.Delivery.{freshened, is_permitted_type, taken_plain}
+use Rattle.amf_core.specs.State.{AmfState, link_in, with_link}
+use Rattle.amf_core.specs.Step.{Stepped, ended, started, step_of}
+use Rattle.amf_core.specs.Work.{Work, status}
 use Rattle.amf_core.specs.declared.inputs.AmfInput.TheVariants.{Uplink}
 use Rattle.amf_core.specs.declared.inputs.AmfRefusal.{AmfRefusal}
 use Rattle.amf_core.specs.declared.outs.AmfOut.{AmfOut}
@@ -76,32 +81,85 @@ abbrev pub SecuresWherePassing : ℕ → Result Stepped AmfRefusal → Type 0
 SecuresWherePassing number (Ok new) = (link_in number new.amf.links).secure ≡ true → has_passed new.outs ≡ true
 SecuresWherePassing number (Err refusal) = Unit {0}
 
--- no count, header type and message are there as whose frame these octets pass under a context
-abbrev pub NothingPasses : SecurityContext → List ℕ → Type 0
-NothingPasses context octets = (count header : ℕ) (message : List ℕ) → ¬ (Passes context Up octets count header message)
+-- A step tells no message as passed: its octets passed no check, since what passes is told.
+abbrev pub TellsNoPass : Result Stepped AmfRefusal → Type 0
+TellsNoPass (Ok new) = has_passed new.outs ≡ false
+TellsNoPass (Err refusal) = Unit {0}
 
--- octets on a link pass no check of any subscriber
-abbrev pub PassNoCheck : AmfState → ℕ → List ℕ → Type 0
-PassNoCheck a number octets =
-    (s : Record) (context : SecurityContext) → IsAmong s a.subscribers → IsContextOf number context s → NothingPasses context octets
+-- The link isn't secure when octets are looked at: they are the first of a connection, or nothing was exchanged securely on it.
+abbrev pub IsUnsecured : AmfState → ℕ → Bool → Type 0
+IsUnsecured a number fresh = (fresh ≡ true) ⊎ ((link_in number a.links).secure ≡ false)
 
--- On a secure link octets that pass no check change nothing, and are answered by nothing.
-abbrev pub UncheckedDoNothing : AmfState → List HomeRecord → ℕ → List ℕ → ℕ → List ℕ → Type 0
-UncheckedDoNothing a home now rand number octets =
-    (link_in number a.links).secure ≡ true → PassNoCheck a number octets
-    → Uplinks a home now rand number false octets ≡ Ok (record { amf = a; home = home; outs = [] })
+-- a request that is answered where it passes no check (clause 4.4.4.3)
+abbrev pub IsAnsweredUnchecked : Mm → Type 0
+IsAnsweredUnchecked (mm.RegistrationRequest m) = Unit {0}
+IsAnsweredUnchecked (mm.ServiceRequest m) = Unit {0}
+IsAnsweredUnchecked message = ⊥
+
+-- octets that may do something without a check: on a link that isn't secure plain ones, and a frame of header type 1 with such a request
+-- inside
+pub record MayDoUnchecked (a : AmfState) (number : ℕ) (fresh : Bool) (octets : List ℕ) : Type 0 where
+  pub unsecured : IsUnsecured a number fresh
+  pub kind :
+      (header_of octets ≡ 0)
+      ⊎ ((header_of octets ≡ 1) × ((m : Mm) × IsAnsweredUnchecked m × (mm_in (drop 7 octets) ≡ Ok m)))
+
+-- the first message of a connection finds its link not secure; nothing else changes by it
+abbrev pub unmarked : Bool → ℕ → AmfState → AmfState
+unmarked true number a = with_link (record (link_in number a.links) { secure = false }) a
+unmarked false number a = a
+
+-- All other octets that pass no check change nothing else, and are answered by nothing.
+abbrev pub UncheckedDoNothing : AmfState → List HomeRecord → ℕ → List ℕ → ℕ → Bool → List ℕ → Type 0
+UncheckedDoNothing a home now rand number fresh octets =
+    TellsNoPass (Uplinks a home now rand number fresh octets) → ¬ (MayDoUnchecked a number fresh octets)
+    → Uplinks a home now rand number fresh octets ≡ Ok (record { amf = unmarked fresh number a; home = home; outs = [] })
+
+-- octets are read as plain ones: on a link that isn't secure, of header type 0
+pub record AreReadPlain (a : AmfState) (number : ℕ) (fresh : Bool) (octets : List ℕ) : Type 0 where
+  pub protocol : is_mm octets ≡ true
+  pub size : length octets ≤ 4096
+  pub unsecured : IsUnsecured a number fresh
+  pub header : header_of octets ≡ 0
+
+-- what octets find that came up a link, and a step that works out so
+abbrev pub found_by : AmfState → List HomeRecord → ℕ → List ℕ → ℕ → Bool → Work
+found_by a home now rand number fresh = freshened fresh number (started a home now rand)
+
+abbrev pub Does : Result Stepped AmfRefusal → Work → Type 0
+Does step w = step ≡ Ok (ended w)
+
+-- What octets do that are read as plain ones (clauses 4.4.4.3, 7.4 and 7.5.1). A message of a kind that is permitted does what its row
+-- for plain messages says, and any other message nothing. A type that isn't known is answered by STATUS 97, and a wrong part of a kind
+-- that is permitted by STATUS 96.
+pub record PlainDo (octets : List ℕ) (number : ℕ) (w : Work) (step : Result Stepped AmfRefusal) : Type 0 where
+  pub permitted : (m : Mm) → mm_in octets ≡ Ok m → permitted_amf (kind_of m) ≡ true → Does step (taken_plain number m w)
+  pub not_permitted : (m : Mm) → mm_in octets ≡ Ok m → permitted_amf (kind_of m) ≡ false → Does step w
+  pub unknown_type :
+      (n : ℕ) → mm_in octets ≡ Err (refusals.UnknownType n)
+      → Does step (status number cause.MESSAGE_TYPE_NON_EXISTENT_OR_NOT_IMPLEMENTED w)
+  pub wrong_part :
+      (n at : ℕ) → mm_in octets ≡ Err (refusals.Mandatory n at) → is_permitted_type (type_of octets) ≡ true
+      → Does step (status number cause.INVALID_MANDATORY_INFORMATION w)
+  pub other_wrong_part :
+      (n at : ℕ) → mm_in octets ≡ Err (refusals.Mandatory n at) → is_permitted_type (type_of octets) ≡ false → Does step w
+  pub ignored : (at : ℕ) → mm_in octets ≡ Err (refusals.Ignored at) → Does step w
+
+abbrev pub PlainDoByKind : AmfState → List HomeRecord → ℕ → List ℕ → ℕ → Bool → List ℕ → Type 0
+PlainDoByKind a home now rand number fresh octets =
+    AreReadPlain a number fresh octets
+    → PlainDo octets number (found_by a home now rand number fresh) (Uplinks a home now rand number fresh octets)
 
 -- octets read as this message: plain, or in a frame that isn't ciphered
 abbrev pub AreRead : List ℕ → Mm → Type 0
 AreRead octets m = ((header_of octets ≡ 0) × (mm_in octets ≡ Ok m)) ⊎ ((header_of octets ≡ 1) × (mm_in (drop 7 octets) ≡ Ok m))
 
--- a SERVICE REQUEST comes as the first message of a connection, or on a link that isn't secure, and passes no check
-pub record IsFailedRequest (a : AmfState) (number : ℕ) (fresh : Bool) (octets : List ℕ) : Type 0 where
+-- a SERVICE REQUEST comes as the first message of a connection, or on a link that isn't secure
+pub record IsBareRequest (a : AmfState) (number : ℕ) (fresh : Bool) (octets : List ℕ) : Type 0 where
   pub protocol : is_mm octets ≡ true
   pub size : length octets ≤ 4096
-  pub unsecured : (fresh ≡ true) ⊎ ((link_in number a.links).secure ≡ false)
+  pub unsecured : IsUnsecured a number fresh
   pub read : (m : ServiceRequest) × AreRead octets (mm.ServiceRequest m)
-  pub unchecked : PassNoCheck a number octets
 
 -- It is answered by SERVICE REJECT, since the UE identity can't be derived, and nothing is sent beside it. No record of a subscriber changes, so no context, no kept 5G-GUTI and
 -- no session, and neither do the numbers of the home network.
@@ -119,4 +177,5 @@ RejectsRequest a home number (Err refusal) = ⊥
 
 abbrev pub FailedRequestsRejected : AmfState → List HomeRecord → ℕ → List ℕ → ℕ → Bool → List ℕ → Type 0
 FailedRequestsRejected a home now rand number fresh octets =
-    IsFailedRequest a number fresh octets → RejectsRequest a home number (Uplinks a home now rand number fresh octets)
+    TellsNoPass (Uplinks a home now rand number fresh octets) → IsBareRequest a number fresh octets
+    → RejectsRequest a home number (Uplinks a home now rand number fresh octets)

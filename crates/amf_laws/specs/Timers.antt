@@ -6,7 +6,7 @@ use Rattle.nas_timers.specs.declared.timer_id.TimerId.TheVariants.{T3510, T3516,
 use Rattle.amf_core.specs.State.{AmfState, subscriber_in}
 use Rattle.amf_core.specs.Step.{Stepped}
 use Rattle.amf_core.specs.declared.inputs.AmfInput.{AmfInput}
-use Rattle.amf_core.specs.declared.inputs.AmfInput.TheVariants.{Uplink, Expired, Authenticate, Deregister, Fence, Sessions, Down, Dropped}
+use Rattle.amf_core.specs.declared.inputs.AmfInput.TheVariants.{Uplink, Expired, Authenticate, Deregister, Update, Fence, Sessions, Down, Dropped}
 use Rattle.amf_core.specs.declared.inputs.AmfRefusal.{AmfRefusal}
 use Rattle.amf_core.specs.declared.outs.AmfOut.{AmfOut}
 use Rattle.amf_core.specs.declared.outs.AmfOut.TheVariants.{Send, Passed, Smf, Start, Stop}
@@ -14,24 +14,25 @@ use Rattle.amf_core.specs.declared.procedures.Procedure.{Procedure}
 use Rattle.amf_core.specs.declared.procedures.Procedure.TheVariants as procedures
 use Rattle.amf_core.specs.declared.subscriber.Record.{Record}
 
--- the timers of a subscriber's procedures: T3560 of a challenge, T3550 of an acceptance, T3522 of a de-registration
+-- the timers of a subscriber's procedures: T3560 of a challenge, T3550 of an acceptance, T3555 of an update, T3522 of a de-registration
 pub record Running : Type 0 where
   pub t3560 : Bool
   pub t3550 : Bool
+  pub t3555 : Bool
   pub t3522 : Bool
 
 abbrev pub none_runs : Running
-none_runs = record { t3560 = false; t3550 = false; t3522 = false }
+none_runs = record { t3560 = false; t3550 = false; t3555 = false; t3522 = false }
 
 abbrev pub with_timer : TimerId → Bool → Running → Running
 with_timer T3560 runs r = record r { t3560 = runs }
 with_timer T3550 runs r = record r { t3550 = runs }
+with_timer T3555 runs r = record r { t3555 = runs }
 with_timer T3522 runs r = record r { t3522 = runs }
 with_timer T3510 runs r = r
 with_timer T3516 runs r = r
 with_timer T3517 runs r = r
 with_timer T3521 runs r = r
-with_timer T3555 runs r = r
 with_timer (T3580 psi) runs r = r
 with_timer (T3581 psi) runs r = r
 with_timer (T3582 psi) runs r = r
@@ -43,6 +44,7 @@ abbrev pub running_in : Procedure → Running
 running_in procedures.Idle = none_runs
 running_in (procedures.Challenging c) = with_timer T3560 true none_runs
 running_in (procedures.Accepting a) = with_timer T3550 true none_runs
+running_in (procedures.Updating u) = with_timer T3555 true none_runs
 running_in (procedures.Deregistering d) = with_timer T3522 true none_runs
 
 abbrev pub running_for : Option Record → Running
@@ -75,6 +77,7 @@ expired_by (Expired supi id) running other = if bytes_eq supi other then with_ti
 expired_by (Uplink link fresh octets) running other = running other
 expired_by (Authenticate supi) running other = running other
 expired_by (Deregister supi) running other = running other
+expired_by (Update supi) running other = running other
 expired_by (Fence supi) running other = running other
 expired_by (Sessions supi status) running other = running other
 expired_by (Down supi psi frame) running other = running other

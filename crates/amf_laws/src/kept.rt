@@ -6,7 +6,8 @@ use amf_core::{Amf, AmfInput};
 use milenage::Home;
 use nas_base::Moment;
 
-/// Two 5G-GUTIs at most are kept for each subscriber behind a step, where it was so before it (TS 24.501 clause 5.5.1.2.4).
+/// Two 5G-GUTIs at most are kept for each subscriber behind a step, where it was so before it (TS 24.501 clauses 5.4.4 and
+/// 5.5.1.2.4).
 pub fn kept_lists_have_two_at_most(
     amf: &Amf,
     home: &Home,

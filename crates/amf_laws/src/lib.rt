@@ -12,6 +12,6 @@ pub use crate::lengths::messages_have_4096_octets_at_most;
 pub use crate::others::other_subscribers_stay;
 pub use crate::passing::{
     Arrival, failed_service_request_changes_nothing, fresh_uplink_clears_the_mark,
-    opened_where_passing, unchecked_octets_on_a_secure_link_do_nothing,
+    opened_where_passing, plain_octets_by_kind, unchecked_octets_do_nothing,
 };
 pub use crate::timers::{subscribers_stay_distinct, timers_fit_procedures};

@@ -1,6 +1,6 @@
 //! What passes a check, and what octets do that pass none.
 ghost use Rattle.std.specs.Prelude.{true};
-ghost use Rattle.amf_laws.specs.Passing.{FailedRequestsRejected, OpensWherePassing, SecuresWherePassing, UncheckedDoNothing, Uplinks};
+ghost use Rattle.amf_laws.specs.Passing.{FailedRequestsRejected, OpensWherePassing, PlainDoByKind, SecuresWherePassing, UncheckedDoNothing, Uplinks};
 
 use amf_core::Amf;
 use milenage::Home;
@@ -40,20 +40,34 @@ pub fn fresh_uplink_clears_the_mark(
     ensures { SecuresWherePassing link (Uplinks amf.now home.now now rand.now link true octets.now) }
 {}
 
-/// On a link on which messages were exchanged securely, octets that pass no check and aren't the first of a connection change nothing,
-/// and are answered by nothing (TS 24.501 clause 4.4.4.3).
-pub fn unchecked_octets_on_a_secure_link_do_nothing(
+/// Octets that pass no check, which a step tells by telling no pass, change nothing, and are answered by nothing, except on a link that isn't secure plain ones, and a frame of
+/// header type 1 with a REGISTRATION REQUEST or a SERVICE REQUEST inside; and except that the first of a connection leave their link not
+/// secure. So a DEREGISTRATION REQUEST that fails changes no record (TS 24.501 clause 4.4.4.3).
+pub fn unchecked_octets_do_nothing(
     amf: &Amf,
     home: &Home,
     now: Moment,
     rand: &[u8; 16],
-    link: u16,
+    arrival: Arrival,
     octets: &[u8],
 )
-    ensures { UncheckedDoNothing amf.now home.now now rand.now link octets.now }
+    ensures { UncheckedDoNothing amf.now home.now now rand.now arrival.link arrival.fresh octets.now }
 {}
 
-/// On a link that isn't secure a SERVICE REQUEST that passes no check, plain or in a frame of header type 1, is answered by SERVICE REJECT
+/// What plain octets do on a link that isn't secure: the row of a message that is permitted, STATUS 97, STATUS 96, or nothing; and where
+/// each of them comes (TS 24.501 clauses 4.4.4.3, 7.4 and 7.5.1).
+pub fn plain_octets_by_kind(
+    amf: &Amf,
+    home: &Home,
+    now: Moment,
+    rand: &[u8; 16],
+    arrival: Arrival,
+    octets: &[u8],
+)
+    ensures { PlainDoByKind amf.now home.now now rand.now arrival.link arrival.fresh octets.now }
+{}
+
+/// On a link that isn't secure a SERVICE REQUEST that passes no check, so that the step tells no pass, plain or in a frame of header type 1, is answered by SERVICE REJECT
 /// with cause 9, and changes no record of a subscriber (TS 24.501 clauses 4.4.4.3 and 5.6.1.5).
 pub fn failed_service_request_changes_nothing(
     amf: &Amf,

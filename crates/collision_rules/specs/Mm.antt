@@ -1,7 +1,7 @@
 -- What is done with a 5GMM message in each state.
 use Rattle.std.specs.Prelude.{Bool, true, false}
 use Rattle.nas_base.specs.declared.mm_kind.MmKind.{MmKind}
-use Rattle.nas_base.specs.declared.mm_kind.MmKind.TheVariants.{RegistrationRequest, RegistrationAccept, RegistrationComplete, RegistrationReject, DeregistrationRequestUeOriginating, DeregistrationAcceptUeOriginating, DeregistrationRequestUeTerminated, DeregistrationAcceptUeTerminated, ServiceRequest, ServiceReject, ServiceAccept, ConfigurationUpdateComplete, AuthenticationRequest, AuthenticationResponse, AuthenticationReject, AuthenticationFailure, IdentityRequest, IdentityResponse, SecurityModeCommand, SecurityModeComplete, SecurityModeReject, FiveGmmStatus, UlNasTransport, DlNasTransport}
+use Rattle.nas_base.specs.declared.mm_kind.MmKind.TheVariants.{RegistrationRequest, RegistrationAccept, RegistrationComplete, RegistrationReject, DeregistrationRequestUeOriginating, DeregistrationAcceptUeOriginating, DeregistrationRequestUeTerminated, DeregistrationAcceptUeTerminated, ServiceRequest, ServiceReject, ServiceAccept, ConfigurationUpdateCommand, ConfigurationUpdateComplete, AuthenticationRequest, AuthenticationResponse, AuthenticationReject, AuthenticationFailure, IdentityRequest, IdentityResponse, SecurityModeCommand, SecurityModeComplete, SecurityModeReject, FiveGmmStatus, UlNasTransport, DlNasTransport}
 use Rattle.nas_base.specs.declared.state_words.AmfWord.{AmfWord}
 use Rattle.nas_base.specs.declared.state_words.AmfWord.TheVariants as amf
 use Rattle.nas_base.specs.declared.state_words.MmWord.{MmWord}
@@ -41,6 +41,7 @@ handset_row ServiceAccept = row S S S T D
 handset_row ServiceReject = row S S S T D
 handset_row DeregistrationRequestUeTerminated = row D T T T T
 handset_row DeregistrationAcceptUeOriginating = row S S S S T
+handset_row ConfigurationUpdateCommand = row S D T T D
 handset_row DlNasTransport = row S T T T D
 handset_row FiveGmmStatus = row D D D D D
 handset_row _ = row S S S S D
@@ -67,8 +68,8 @@ network_row SecurityModeComplete = amf_row T T T
 network_row SecurityModeReject = amf_row T T T
 network_row IdentityResponse = amf_row T T T
 network_row DeregistrationAcceptUeTerminated = amf_row T T T
+network_row ConfigurationUpdateComplete = amf_row T T T
 network_row FiveGmmStatus = amf_row D D D
-network_row ConfigurationUpdateComplete = amf_row D D D
 network_row _ = amf_row S S S
 
 abbrev pub collide_amf : AmfWord → Bool → MmKind → Action

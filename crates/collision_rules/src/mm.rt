@@ -27,6 +27,7 @@ pub fn collide_mm(state: MmWord, kind: MmKind) -> Action
         MmKind::ServiceAccept | MmKind::ServiceReject => row(S, S, S, T, D, state),
         MmKind::DeregistrationRequestUeTerminated => row(D, T, T, T, T, state),
         MmKind::DeregistrationAcceptUeOriginating => row(S, S, S, S, T, state),
+        MmKind::ConfigurationUpdateCommand => row(S, D, T, T, D, state),
         MmKind::DlNasTransport => row(S, T, T, T, D, state),
         MmKind::FiveGmmStatus => row(D, D, D, D, D, state),
         _ => row(S, S, S, S, D, state),
@@ -68,12 +69,11 @@ pub fn collide_amf(state: AmfWord, registered: bool, kind: MmKind) -> Action
         | MmKind::SecurityModeComplete
         | MmKind::SecurityModeReject
         | MmKind::IdentityResponse
-        | MmKind::DeregistrationAcceptUeTerminated => amf_row(T, T, T, state, registered),
+        | MmKind::DeregistrationAcceptUeTerminated
+        | MmKind::ConfigurationUpdateComplete => amf_row(T, T, T, state, registered),
         MmKind::ServiceRequest => amf_row(T, T, D, state, registered),
         MmKind::UlNasTransport => amf_row(T, S, D, state, registered),
-        MmKind::FiveGmmStatus | MmKind::ConfigurationUpdateComplete => amf_row(
-            D, D, D, state, registered,
-        ),
+        MmKind::FiveGmmStatus => amf_row(D, D, D, state, registered),
         _ => amf_row(S, S, S, state, registered),
     }
 }

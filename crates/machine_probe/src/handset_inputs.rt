@@ -2,11 +2,8 @@
 
 use nas_base::{Kind, Moment};
 use nas_handset::UeCommand;
-use probe_words::{Refusal, octets};
+use probe_words::{Refusal, moment, octets};
 use std::alloc::Global;
-
-// 10^15, the last moment.
-const LAST_MOMENT: u64 = 1_000_000_000_000_000;
 
 /// What a word gives.
 #[derive(Drop)]
@@ -53,14 +50,6 @@ pub fn command(word: &str) -> Result<UeCommand, Refusal> {
         "service" => Ok(UeCommand::Service),
         "deregister" => Ok(UeCommand::Deregister { switch_off: false }),
         "switch-off" => Ok(UeCommand::Deregister { switch_off: true }),
-        _ => Err(Refusal::Unreadable),
-    }
-}
-
-/// A moment in milliseconds, at most 10^15.
-pub fn moment(word: &str) -> Result<Moment, Refusal> {
-    match word.parse::<u64>() {
-        Ok(ms) if ms <= LAST_MOMENT => Ok(Moment(ms)),
         _ => Err(Refusal::Unreadable),
     }
 }

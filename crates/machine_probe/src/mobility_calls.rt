@@ -9,7 +9,7 @@
 //!     counts:UP:DOWN          the next counts of the context in use are these, at most 2^24
 //!     register, mobility, periodic, service, deregister, switch-off
 //!     octets:OCTETS           at most 4,100 octets reach the handset
-//!     expired:TIMER           T3510, T3516, T3517, T3521, T3522, T3550 or T3560
+//!     expired:TIMER           T3510, T3516, T3517, T3521, T3522, T3550, T3555 or T3560
 //!     drop, restart
 //!     carry:PSI:OCTETS        a message of a session, perhaps with its data network
 //!     carry:PSI:OCTETS:DNN

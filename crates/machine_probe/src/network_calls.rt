@@ -1,7 +1,7 @@
-//! The calls of nas_network, at the network of PLMN, AMF, TMSI, NEA, TAC, T3512 and the milliseconds of three timers, with these
+//! The calls of nas_network, at the network of PLMN, AMF, TMSI, NEA, TAC, T3512 and the milliseconds of four timers, with these
 //! subscribers:
 //!
-//!     network PLMN:AMF:TMSI:NEA:TAC:T3512:T3522:T3550:T3560 SUPI:K:OPC:FIELD:SQN:SLICES,.. INPUT INPUT ..
+//!     network PLMN:AMF:TMSI:NEA:TAC:T3512:T3522:T3550:T3555:T3560 SUPI:K:OPC:FIELD:SQN:SLICES,.. INPUT INPUT ..
 //!     time_network TIMES SUBSCRIBERS
 //!     time_network_copy TIMES SUBSCRIBERS
 //!     time_both_ends TIMES SUBSCRIBERS
@@ -13,7 +13,7 @@
 //!     random:RAND             a challenge from here on has this RAND; zeros at the beginning
 //!     deliver:LINK:OCTETS     these octets come up the link
 //!     fresh:LINK:OCTETS       the same, as the first of a connection
-//!     authenticate:SUPI, deregister:SUPI
+//!     authenticate:SUPI, deregister:SUPI, update:SUPI
 //!     tick:MS                 the moment is told, at most 10^15
 //!     drop:LINK
 //!     copy                    a copy of the network goes on in its place
@@ -22,7 +22,8 @@
 //! each subscriber in the order of the call, with commas between what came of it and `|` between subscribers. What comes of it is
 //! some of these, in this order:
 //!
-//!     refused:unknown_supi, refused:wrong_state:STATE, refused:sqn_spent:SQN
+//!     refused:unknown_supi, refused:wrong_state:STATE, refused:sqn_spent:SQN, refused:uncompleted:TMSI, refused:updated:TMSI,
+//!     refused:tmsi_spent:TMSI
 //!     passed:PASS
 //!     sent:LINK:OCTETS:PASS   a message is sent; `plain` in place of the PASS of a plain one
 //!

@@ -3,17 +3,16 @@ ghost use Rattle.std.specs.Prelude.{◌≡◌, ◌≤◌, ◌==◌, ◌||◌, []
 ghost use Rattle.milenage.specs.Checking.{is_for_5g};
 ghost use Rattle.milenage.specs.Home.{is_sqn};
 ghost use Rattle.nas_base.specs.Supi.{is_of_plmn};
-ghost use Rattle.nas_timers.specs.Durations.{is_duration};
 ghost use Rattle.nas_network.specs.Config.{are_subscribers, is_subscriber};
 
 use crate::handset_config::sequence_number;
-use nas_base::{Moment, Plmn, Supi};
+use nas_base::{Plmn, Supi};
 use nas_elements::{Ambr, Dnn, Dnns, Nssai, Timer3};
 use nas_network::{
     NetConfig, Subscriber, Subscribers, is_for_5g, is_pool_size, is_subscriber, pool_fits,
 };
 use nas_timers::Durations;
-use probe_words::{Refusal, exactly, network, octet, octets, quantity, subscriber};
+use probe_words::{Refusal, duration, exactly, network, octet, octets, quantity, subscriber};
 use std::alloc::Global;
 
 // What is the same for all networks of the calls, since nothing is seen of it without sessions.
@@ -29,8 +28,6 @@ const AMBR: Ambr = Ambr {
     up_unit: 6,
     up: 1000,
 };
-
-const DAY: u64 = 86_400_000;
 
 /// The network of these words.
 pub fn read_config(alloc: Global, words: &str, subscribers: &str) -> Result<NetConfig, Refusal> {
@@ -61,14 +58,15 @@ pub fn read_config(alloc: Global, words: &str, subscribers: &str) -> Result<NetC
     })
 }
 
-// The durations of T3522, T3550 and T3560; all others are the standard ones.
+// The durations of T3522, T3550, T3555 and T3560; all others are the standard ones.
 fn read_durations(words: &[&str]) -> Result<Durations, Refusal> {
-    let [t3522, t3550, t3560] = words else {
+    let [t3522, t3550, t3555, t3560] = words else {
         return Err(Refusal::Unreadable);
     };
     Ok(Durations {
         t3522: duration(t3522)?,
         t3550: duration(t3550)?,
+        t3555: duration(t3555)?,
         t3560: duration(t3560)?,
         ..Durations::standard()
     })
@@ -79,15 +77,6 @@ fn parts_of<'a>(alloc: Global, word: &'a str, between: char) -> Result<Vec<&'a s
     word.split(between)
         .collect::<Vec<&str>>(alloc)
         .map_err(|_| Refusal::Memory)
-}
-
-fn duration(word: &str) -> Result<Moment, Refusal>
-    ensures { IfOk result (λ moment. is_duration moment ≡ true) }
-{
-    match word.parse::<u64>() {
-        Ok(ms) if 1 <= ms && ms <= DAY => Ok(Moment(ms)),
-        _ => Err(Refusal::Unreadable),
-    }
 }
 
 fn first_tmsi(word: &str) -> Result<u32, Refusal>

@@ -1,9 +1,8 @@
 //! The words that are given to a network; network_calls lists them.
 
-use crate::handset_inputs::moment;
 use nas_base::Moment;
 use nas_network::NetCommand;
-use probe_words::{Refusal, exactly, octets, subscriber};
+use probe_words::{Refusal, exactly, moment, octets, subscriber};
 use std::alloc::Global;
 
 /// What a word says.
@@ -65,6 +64,9 @@ fn command(name: &str, value: &str) -> Result<NetCommand, Refusal> {
     match name {
         "authenticate" => Ok(NetCommand::Authenticate(subscriber(value)?)),
         "deregister" => Ok(NetCommand::Deregister(subscriber(value)?)),
+        "update" => Ok(NetCommand::Update {
+            supi: subscriber(value)?,
+        }),
         _ => Err(Refusal::Unreadable),
     }
 }

@@ -29,6 +29,9 @@ pub fn refusal_text(alloc: Global, refusal: NetRefusal) -> Result<String, Refusa
         NetRefusal::UnknownSupi => literal(alloc, "refused:unknown_supi,"),
         NetRefusal::WrongState { state } => wrong_state_text(alloc, state),
         NetRefusal::SqnSpent { sqn } => sqn_spent_text(alloc, sqn),
+        NetRefusal::Uncompleted { tmsi } => tmsi_text(alloc, "uncompleted", tmsi),
+        NetRefusal::Updated { tmsi } => tmsi_text(alloc, "updated", tmsi),
+        NetRefusal::TmsiSpent { last } => tmsi_text(alloc, "tmsi_spent", last),
         NetRefusal::Memory => Err(Refusal::Memory),
     }
 }
@@ -39,6 +42,10 @@ fn wrong_state_text(alloc: Global, state: AmfWord) -> Result<String, Refusal> {
 
 fn sqn_spent_text(alloc: Global, sqn: u64) -> Result<String, Refusal> {
     word(format!(in alloc; "refused:sqn_spent:{sqn:012x},"))
+}
+
+fn tmsi_text(alloc: Global, name: &str, tmsi: u32) -> Result<String, Refusal> {
+    word(format!(in alloc; "refused:{name}:{tmsi:08x},"))
 }
 
 /// What can be seen of a subscriber.

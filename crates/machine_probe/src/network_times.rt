@@ -10,7 +10,7 @@ use probe_words::{Refusal, push, sum_of, word};
 use std::alloc::Global;
 use ue_mm::HandsetConfig;
 
-const NETWORK: &str = "00101:020040:1:2:000001:06:6000:6000:6000";
+const NETWORK: &str = "00101:020040:1:2:000001:06:6000:6000:6000:6000";
 
 // What follows the SUPI of each subscriber: K and OPc of TS 35.208 test set 1, and the sequence number before its own.
 const KEYS: &str =

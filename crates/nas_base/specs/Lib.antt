@@ -3,6 +3,7 @@ pub mod Causes
 pub mod Digits
 pub mod Kinds
 pub mod Octets
+pub mod Outcomes
 pub mod Outside
 pub mod Plmn
 pub mod Reading

@@ -1,3 +1,4 @@
 pub mod Due
+mod Lengths
 pub mod Long
 pub mod Owners

@@ -1,6 +1,8 @@
 -- What a handset answers to each event.
-use Rattle.std.specs.Prelude.{◌≡◌, ℕ, List, Result, Ok, Err}
+use Rattle.std.specs.Prelude.{◌≡◌, ℕ, Bool, true, false, List, Result, Ok, Err}
+use Rattle.nas_base.specs.Outcomes.{RefusesAs}
 use Rattle.nas_security.specs.declared.sends.Send.{Send}
+use Rattle.ue_mm.specs.Outcome as ue
 use Rattle.ue_mm.specs.Step.{Stepped}
 use Rattle.ue_mm.specs.declared.inputs.MmCommand.{MmCommand}
 use Rattle.ue_mm.specs.declared.inputs.MmCommand.TheVariants as mm
@@ -45,26 +47,25 @@ restarted h = turned Restart (begun h)
 abbrev pub ended : HandsetState → Delivery → Turn
 ended h d = record { handset = h; sends = d.sends; passed = d.passed; took = d.took }
 
+-- which refusal is want of memory
+abbrev pub wants_memory : CommandRefusal → Bool
+wants_memory Memory = true
+wants_memory (WrongState word) = false
+wants_memory (Spent next) = false
+
 -- what a command comes to
 abbrev pub FollowsCommand : Result (HandsetState × List Send) CommandRefusal → Result Turn CommandRefusal → Type 0
 FollowsCommand (Ok (new, sends)) (Ok t) = (new ≡ t.handset) × (sends ≡ t.sends)
 FollowsCommand (Ok followed) (Err refusal) = ⊥
-FollowsCommand (Err Memory) row = Unit {0}
-FollowsCommand (Err (WrongState word)) row = row ≡ Err (WrongState word)
-FollowsCommand (Err (Spent next)) row = row ≡ Err (Spent next)
+FollowsCommand (Err refusal) row = RefusesAs wants_memory refusal row
 
 -- what a command answered, and the handset behind it
 abbrev pub Commands : HandsetState → HandsetState → Result (List Send) CommandRefusal → Result Turn CommandRefusal → Type 0
-Commands old new (Ok sends) (Ok t) = (new ≡ t.handset) × (sends ≡ t.sends)
-Commands old new (Ok sends) (Err refusal) = ⊥
-Commands old new (Err Memory) row = new ≡ old
-Commands old new (Err (WrongState word)) row = (row ≡ Err (WrongState word)) × (new ≡ old)
-Commands old new (Err (Spent next)) row = (row ≡ Err (Spent next)) × (new ≡ old)
+Commands old new (Ok sends) row = FollowsCommand (Ok (new, sends)) row
+Commands old new (Err refusal) row = RefusesAs wants_memory refusal row × (new ≡ old)
 
 -- what the first step of a turn answered
 abbrev pub StepsFirst : Result Turn StepRefusal → Result Stepped StepRefusal → HandsetState → Type 0
 StepsFirst (Ok t) (Ok s) h = t ≡ onto (Ok s) (begun h)
 StepsFirst (Ok t) (Err refusal) h = ⊥
-StepsFirst (Err steps.Memory) step h = Unit {0}
-StepsFirst (Err (steps.WrongState word)) step h = step ≡ Err (steps.WrongState word)
-StepsFirst (Err (steps.Spent next)) step h = step ≡ Err (steps.Spent next)
+StepsFirst (Err refusal) step h = RefusesAs ue.wants_memory refusal step

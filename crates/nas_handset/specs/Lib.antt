@@ -1,4 +1,5 @@
 pub mod Handset
+pub mod Lengths
 pub mod Owners
 pub mod State
 pub mod Ticks

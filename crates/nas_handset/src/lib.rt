@@ -3,6 +3,7 @@
 
 mod command;
 mod handset;
+pub mod laws;
 mod ticks;
 mod turn;
 

@@ -61,9 +61,8 @@ impl Turn {
                 self.take_all(alloc, outs)
             }
             Err(StepRefusal::Memory) => Err(Memory),
-            Err(StepRefusal::WrongState { state: _ }) | Err(StepRefusal::Spent { next: _ }) => Ok(
-                (),
-            ),
+            Err(StepRefusal::WrongState { state: _ }) => Ok(()),
+            Err(StepRefusal::Spent { next: _ }) => Ok(()),
         }
     }
 

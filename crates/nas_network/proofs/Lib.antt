@@ -4,6 +4,7 @@ mod Due
 mod Few
 mod FirstOwners
 pub mod Growing
+mod Lengths
 mod Owners
 mod Running
 mod Supis

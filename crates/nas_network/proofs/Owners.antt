@@ -8,7 +8,6 @@ use Rattle.amf_core.specs.Step.{Stepped, step_of, worked}
 use Rattle.amf_core.specs.declared.inputs.AmfInput.{AmfInput}
 use Rattle.amf_core.specs.declared.inputs.AmfInput.TheVariants as inputs
 use Rattle.amf_core.specs.declared.inputs.AmfRefusal.{AmfRefusal}
-use Rattle.amf_core.specs.declared.inputs.AmfRefusal.TheVariants as steps
 use Rattle.amf_laws.specs.Kept.{StayFew, SupisStay, supis}
 use Rattle.amf_laws.specs.Timers.{AreDistinct, FitProcedures, Running, StayDistinct, TimersFit, expired_by, taken_by}
 use Rattle.amf_laws.specs.Timers as laws
@@ -22,7 +21,7 @@ use Rattle.nas_network.specs.State.{NetworkState, timers_of}
 use Rattle.nas_network.specs.Ticks.{DueTimer, all_fired, due_list, fired, is_due, ticked, told, without}
 use Rattle.nas_network.specs.Turns.{Turn, all_taken, begun, onto, stepped, turned}
 use Rattle.nas_network.specs.declared.command.NetCommand.{NetCommand}
-use Rattle.nas_network.specs.declared.command.NetCommand.TheVariants.{Authenticate, Deregister}
+use Rattle.nas_network.specs.declared.command.NetCommand.TheVariants.{Authenticate, Deregister, Update}
 use Rattle.nas_network.specs.declared.command.NetDelivery.{NetDelivery}
 use Rattle.nas_network.proofs.Few.{all_keep, each_keeps_few}
 use Rattle.nas_network.proofs.Running.{all_run, all_stay, all_timed, stop_runs}
@@ -155,6 +154,7 @@ followed_tick rand now n l delivery owned is = answer_owned n l delivery (ticked
 command_is_none : (command : NetCommand) → IsNoExpiry (amf_command command)
 command_is_none (Authenticate supi) = λ _ _. refl
 command_is_none (Deregister supi) = λ _ _. refl
+command_is_none (Update supi) = λ _ _. refl
 
 outcome_owned : (rand : List ℕ) (input : AmfInput) (old new : NetworkState) (delivery : NetDelivery) (r : Result Stepped AmfRefusal)
     → stepped rand input (begun old) ≡ r → IsNoExpiry input → outcome r old ≡ Ok (answered new delivery) → HaveOwners old → HaveOwners new
@@ -162,10 +162,7 @@ outcome_owned rand input old new delivery (Ok s) step none is owned =
     let same : onto (Ok s) (begun old) ≡ answered new delivery = cc is in
     subst (λ (u : Turn). HaveOwners u.network) same
     (onto_owned old input s (begun old) (begins input (begun old) none owned) (lawful old rand input s step))
-outcome_owned rand input old new delivery (Err steps.UnknownSupi) step none is owned = absurd (cc is)
-outcome_owned rand input old new delivery (Err (steps.WrongState word)) step none is owned = absurd (cc is)
-outcome_owned rand input old new delivery (Err (steps.SqnSpent sqn)) step none is owned = absurd (cc is)
-outcome_owned rand input old new delivery (Err steps.Memory) step none is owned = absurd (cc is)
+outcome_owned rand input old new delivery (Err refusal) step none is owned = absurd (cc is)
 
 pub followed_command : (rand : List ℕ) (command : NetCommand) (n : NetworkState) (l : TurnChanges) (delivery : NetDelivery) → HaveOwners n
     → commanded rand command n ≡ Ok (answered (taken_over l n) delivery) → HaveOwners (taken_over l n)

@@ -14,36 +14,36 @@ use Rattle.nas_network.specs.Owners.{running_for, running_of, timed}
 use Rattle.nas_network.specs.Turns.{Turn, all_taken, taken}
 use Rattle.nas_network.proofs.Supis.{is_one_of, others_stay, own_change, timed_stay}
 
--- what starting and stopping one timer does to the three
+-- what starting and stopping one timer does to the four
 starts : (id : TimerId) (at : ℕ) (ts : List timers.Running) → running_of (started id at ts) ≡ with_timer id true (running_of ts)
-starts T3510 at ts = rw (deadline_of-started T3560 T3510 at ts, deadline_of-started T3550 T3510 at ts, deadline_of-started T3522 T3510 at ts) refl
-starts T3516 at ts = rw (deadline_of-started T3560 T3516 at ts, deadline_of-started T3550 T3516 at ts, deadline_of-started T3522 T3516 at ts) refl
-starts T3517 at ts = rw (deadline_of-started T3560 T3517 at ts, deadline_of-started T3550 T3517 at ts, deadline_of-started T3522 T3517 at ts) refl
-starts T3521 at ts = rw (deadline_of-started T3560 T3521 at ts, deadline_of-started T3550 T3521 at ts, deadline_of-started T3522 T3521 at ts) refl
-starts T3522 at ts = rw (deadline_of-started T3560 T3522 at ts, deadline_of-started T3550 T3522 at ts, deadline_of-started T3522 T3522 at ts) refl
-starts T3550 at ts = rw (deadline_of-started T3560 T3550 at ts, deadline_of-started T3550 T3550 at ts, deadline_of-started T3522 T3550 at ts) refl
-starts T3555 at ts = rw (deadline_of-started T3560 T3555 at ts, deadline_of-started T3550 T3555 at ts, deadline_of-started T3522 T3555 at ts) refl
-starts T3560 at ts = rw (deadline_of-started T3560 T3560 at ts, deadline_of-started T3550 T3560 at ts, deadline_of-started T3522 T3560 at ts) refl
-starts (T3580 psi) at ts = rw (deadline_of-started T3560 (T3580 psi) at ts, deadline_of-started T3550 (T3580 psi) at ts, deadline_of-started T3522 (T3580 psi) at ts) refl
-starts (T3581 psi) at ts = rw (deadline_of-started T3560 (T3581 psi) at ts, deadline_of-started T3550 (T3581 psi) at ts, deadline_of-started T3522 (T3581 psi) at ts) refl
-starts (T3582 psi) at ts = rw (deadline_of-started T3560 (T3582 psi) at ts, deadline_of-started T3550 (T3582 psi) at ts, deadline_of-started T3522 (T3582 psi) at ts) refl
-starts (T3591 psi) at ts = rw (deadline_of-started T3560 (T3591 psi) at ts, deadline_of-started T3550 (T3591 psi) at ts, deadline_of-started T3522 (T3591 psi) at ts) refl
-starts (T3592 psi) at ts = rw (deadline_of-started T3560 (T3592 psi) at ts, deadline_of-started T3550 (T3592 psi) at ts, deadline_of-started T3522 (T3592 psi) at ts) refl
+starts T3510 at ts = rw (deadline_of-started T3560 T3510 at ts, deadline_of-started T3550 T3510 at ts, deadline_of-started T3555 T3510 at ts, deadline_of-started T3522 T3510 at ts) refl
+starts T3516 at ts = rw (deadline_of-started T3560 T3516 at ts, deadline_of-started T3550 T3516 at ts, deadline_of-started T3555 T3516 at ts, deadline_of-started T3522 T3516 at ts) refl
+starts T3517 at ts = rw (deadline_of-started T3560 T3517 at ts, deadline_of-started T3550 T3517 at ts, deadline_of-started T3555 T3517 at ts, deadline_of-started T3522 T3517 at ts) refl
+starts T3521 at ts = rw (deadline_of-started T3560 T3521 at ts, deadline_of-started T3550 T3521 at ts, deadline_of-started T3555 T3521 at ts, deadline_of-started T3522 T3521 at ts) refl
+starts T3522 at ts = rw (deadline_of-started T3560 T3522 at ts, deadline_of-started T3550 T3522 at ts, deadline_of-started T3555 T3522 at ts, deadline_of-started T3522 T3522 at ts) refl
+starts T3550 at ts = rw (deadline_of-started T3560 T3550 at ts, deadline_of-started T3550 T3550 at ts, deadline_of-started T3555 T3550 at ts, deadline_of-started T3522 T3550 at ts) refl
+starts T3555 at ts = rw (deadline_of-started T3560 T3555 at ts, deadline_of-started T3550 T3555 at ts, deadline_of-started T3555 T3555 at ts, deadline_of-started T3522 T3555 at ts) refl
+starts T3560 at ts = rw (deadline_of-started T3560 T3560 at ts, deadline_of-started T3550 T3560 at ts, deadline_of-started T3555 T3560 at ts, deadline_of-started T3522 T3560 at ts) refl
+starts (T3580 psi) at ts = rw (deadline_of-started T3560 (T3580 psi) at ts, deadline_of-started T3550 (T3580 psi) at ts, deadline_of-started T3555 (T3580 psi) at ts, deadline_of-started T3522 (T3580 psi) at ts) refl
+starts (T3581 psi) at ts = rw (deadline_of-started T3560 (T3581 psi) at ts, deadline_of-started T3550 (T3581 psi) at ts, deadline_of-started T3555 (T3581 psi) at ts, deadline_of-started T3522 (T3581 psi) at ts) refl
+starts (T3582 psi) at ts = rw (deadline_of-started T3560 (T3582 psi) at ts, deadline_of-started T3550 (T3582 psi) at ts, deadline_of-started T3555 (T3582 psi) at ts, deadline_of-started T3522 (T3582 psi) at ts) refl
+starts (T3591 psi) at ts = rw (deadline_of-started T3560 (T3591 psi) at ts, deadline_of-started T3550 (T3591 psi) at ts, deadline_of-started T3555 (T3591 psi) at ts, deadline_of-started T3522 (T3591 psi) at ts) refl
+starts (T3592 psi) at ts = rw (deadline_of-started T3560 (T3592 psi) at ts, deadline_of-started T3550 (T3592 psi) at ts, deadline_of-started T3555 (T3592 psi) at ts, deadline_of-started T3522 (T3592 psi) at ts) refl
 
 pub stops : (id : TimerId) (ts : List timers.Running) → running_of (stopped id ts) ≡ with_timer id false (running_of ts)
-stops T3510 ts = rw (deadline_of-stopped T3560 T3510 ts, deadline_of-stopped T3550 T3510 ts, deadline_of-stopped T3522 T3510 ts) refl
-stops T3516 ts = rw (deadline_of-stopped T3560 T3516 ts, deadline_of-stopped T3550 T3516 ts, deadline_of-stopped T3522 T3516 ts) refl
-stops T3517 ts = rw (deadline_of-stopped T3560 T3517 ts, deadline_of-stopped T3550 T3517 ts, deadline_of-stopped T3522 T3517 ts) refl
-stops T3521 ts = rw (deadline_of-stopped T3560 T3521 ts, deadline_of-stopped T3550 T3521 ts, deadline_of-stopped T3522 T3521 ts) refl
-stops T3522 ts = rw (deadline_of-stopped T3560 T3522 ts, deadline_of-stopped T3550 T3522 ts, deadline_of-stopped T3522 T3522 ts) refl
-stops T3550 ts = rw (deadline_of-stopped T3560 T3550 ts, deadline_of-stopped T3550 T3550 ts, deadline_of-stopped T3522 T3550 ts) refl
-stops T3555 ts = rw (deadline_of-stopped T3560 T3555 ts, deadline_of-stopped T3550 T3555 ts, deadline_of-stopped T3522 T3555 ts) refl
-stops T3560 ts = rw (deadline_of-stopped T3560 T3560 ts, deadline_of-stopped T3550 T3560 ts, deadline_of-stopped T3522 T3560 ts) refl
-stops (T3580 psi) ts = rw (deadline_of-stopped T3560 (T3580 psi) ts, deadline_of-stopped T3550 (T3580 psi) ts, deadline_of-stopped T3522 (T3580 psi) ts) refl
-stops (T3581 psi) ts = rw (deadline_of-stopped T3560 (T3581 psi) ts, deadline_of-stopped T3550 (T3581 psi) ts, deadline_of-stopped T3522 (T3581 psi) ts) refl
-stops (T3582 psi) ts = rw (deadline_of-stopped T3560 (T3582 psi) ts, deadline_of-stopped T3550 (T3582 psi) ts, deadline_of-stopped T3522 (T3582 psi) ts) refl
-stops (T3591 psi) ts = rw (deadline_of-stopped T3560 (T3591 psi) ts, deadline_of-stopped T3550 (T3591 psi) ts, deadline_of-stopped T3522 (T3591 psi) ts) refl
-stops (T3592 psi) ts = rw (deadline_of-stopped T3560 (T3592 psi) ts, deadline_of-stopped T3550 (T3592 psi) ts, deadline_of-stopped T3522 (T3592 psi) ts) refl
+stops T3510 ts = rw (deadline_of-stopped T3560 T3510 ts, deadline_of-stopped T3550 T3510 ts, deadline_of-stopped T3555 T3510 ts, deadline_of-stopped T3522 T3510 ts) refl
+stops T3516 ts = rw (deadline_of-stopped T3560 T3516 ts, deadline_of-stopped T3550 T3516 ts, deadline_of-stopped T3555 T3516 ts, deadline_of-stopped T3522 T3516 ts) refl
+stops T3517 ts = rw (deadline_of-stopped T3560 T3517 ts, deadline_of-stopped T3550 T3517 ts, deadline_of-stopped T3555 T3517 ts, deadline_of-stopped T3522 T3517 ts) refl
+stops T3521 ts = rw (deadline_of-stopped T3560 T3521 ts, deadline_of-stopped T3550 T3521 ts, deadline_of-stopped T3555 T3521 ts, deadline_of-stopped T3522 T3521 ts) refl
+stops T3522 ts = rw (deadline_of-stopped T3560 T3522 ts, deadline_of-stopped T3550 T3522 ts, deadline_of-stopped T3555 T3522 ts, deadline_of-stopped T3522 T3522 ts) refl
+stops T3550 ts = rw (deadline_of-stopped T3560 T3550 ts, deadline_of-stopped T3550 T3550 ts, deadline_of-stopped T3555 T3550 ts, deadline_of-stopped T3522 T3550 ts) refl
+stops T3555 ts = rw (deadline_of-stopped T3560 T3555 ts, deadline_of-stopped T3550 T3555 ts, deadline_of-stopped T3555 T3555 ts, deadline_of-stopped T3522 T3555 ts) refl
+stops T3560 ts = rw (deadline_of-stopped T3560 T3560 ts, deadline_of-stopped T3550 T3560 ts, deadline_of-stopped T3555 T3560 ts, deadline_of-stopped T3522 T3560 ts) refl
+stops (T3580 psi) ts = rw (deadline_of-stopped T3560 (T3580 psi) ts, deadline_of-stopped T3550 (T3580 psi) ts, deadline_of-stopped T3555 (T3580 psi) ts, deadline_of-stopped T3522 (T3580 psi) ts) refl
+stops (T3581 psi) ts = rw (deadline_of-stopped T3560 (T3581 psi) ts, deadline_of-stopped T3550 (T3581 psi) ts, deadline_of-stopped T3555 (T3581 psi) ts, deadline_of-stopped T3522 (T3581 psi) ts) refl
+stops (T3582 psi) ts = rw (deadline_of-stopped T3560 (T3582 psi) ts, deadline_of-stopped T3550 (T3582 psi) ts, deadline_of-stopped T3555 (T3582 psi) ts, deadline_of-stopped T3522 (T3582 psi) ts) refl
+stops (T3591 psi) ts = rw (deadline_of-stopped T3560 (T3591 psi) ts, deadline_of-stopped T3550 (T3591 psi) ts, deadline_of-stopped T3555 (T3591 psi) ts, deadline_of-stopped T3522 (T3591 psi) ts) refl
+stops (T3592 psi) ts = rw (deadline_of-stopped T3560 (T3592 psi) ts, deadline_of-stopped T3550 (T3592 psi) ts, deadline_of-stopped T3555 (T3592 psi) ts, deadline_of-stopped T3522 (T3592 psi) ts) refl
 
 -- what goes out starts and stops those of the SUPIs that timers are kept for
 start_runs : (x supi : List ℕ) (id : TimerId) (at : ℕ) (t : Turn) (own : Bool) → bytes_eq supi x ≡ own

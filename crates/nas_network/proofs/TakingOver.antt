@@ -2,7 +2,7 @@
 use Rattle.std.proofs.Common.{◌≡◌, ◌∙◌, ap, refl, sym, subst, ℕ, Bool, true, false, List, [], ◌∷◌, ◌++◌, Result, Ok, Err}
 use Rattle.amf_core.specs.Step.{Stepped, worked}
 use Rattle.amf_core.specs.declared.inputs.AmfInput.{AmfInput}
-use Rattle.amf_core.specs.declared.inputs.AmfInput.TheVariants.{Uplink, Expired, Authenticate, Deregister, Fence, Sessions, Down, Dropped}
+use Rattle.amf_core.specs.declared.inputs.AmfInput.TheVariants.{Uplink, Expired, Authenticate, Deregister, Update, Fence, Sessions, Down, Dropped}
 use Rattle.amf_core.specs.declared.inputs.AmfRefusal.{AmfRefusal}
 use Rattle.amf_core.specs.declared.outs.AmfOut.{AmfOut}
 use Rattle.amf_core.specs.declared.outs.AmfOut.TheVariants as outs
@@ -32,6 +32,7 @@ pub never_refused : (rand : List ℕ) (input : AmfInput) (t : Turn) (e : AmfRefu
 unfolding worked
 never_refused rand (Authenticate supi) t e true_of is = cc
 never_refused rand (Deregister supi) t e true_of is = cc
+never_refused rand (Update supi) t e true_of is = cc
 never_refused rand (Uplink link fresh octets) t e true_of is = cc
 never_refused rand (Expired supi id) t e true_of is = cc
 never_refused rand (Fence supi) t e true_of is = cc

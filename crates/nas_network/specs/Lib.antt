@@ -1,4 +1,5 @@
 pub mod Config
+pub mod Lengths
 pub mod Network
 pub mod Owners
 pub mod State

@@ -3,18 +3,19 @@ use Rattle.std.specs.Prelude.{◌≡◌, is_some, nat_le, ℕ, Bool, true, List,
 use Rattle.std.specs.List.{list_all}
 use Rattle.nas_timers.specs.Timers as timers
 use Rattle.nas_timers.specs.Timers.{deadline_of}
-use Rattle.nas_timers.specs.declared.timer_id.TimerId.TheVariants.{T3522, T3550, T3560}
+use Rattle.nas_timers.specs.declared.timer_id.TimerId.TheVariants.{T3522, T3550, T3555, T3560}
 use Rattle.amf_core.specs.declared.inputs.AmfInput.{AmfInput}
 use Rattle.amf_core.specs.declared.subscriber.Record.{Record}
 use Rattle.amf_laws.specs.Kept.{supis}
 use Rattle.amf_laws.specs.Timers.{AreDistinct, FitProcedures, Running, expired_by}
 use Rattle.nas_network.specs.State.{NetworkState, SubscriberTimers, timers_of}
 
--- those of the three that have a deadline
+-- those of the four that have a deadline
 abbrev pub running_of : List timers.Running → Running
 running_of ts = record {
   t3560 = is_some (deadline_of T3560 ts);
   t3550 = is_some (deadline_of T3550 ts);
+  t3555 = is_some (deadline_of T3555 ts);
   t3522 = is_some (deadline_of T3522 ts);
 }
 
@@ -27,7 +28,7 @@ abbrev pub timed : List SubscriberTimers → List (List ℕ)
 timed [] = []
 timed (s ∷ ss) = s.supi ∷ timed ss
 
--- two 5G-GUTIs at most are kept for each subscriber (TS 24.501 clause 5.5.1.2.4)
+-- two 5G-GUTIs at most are kept for each subscriber (TS 24.501 clauses 5.4.4 and 5.5.1.2.4)
 abbrev pub keeps_few : Record → Bool
 keeps_few s = nat_le (length s.kept) 2
 

@@ -1,17 +1,17 @@
 -- A turn while it goes on, beside the network that it began on, and what that network becomes when it is taken over.
 use Rattle.std.specs.Prelude.{◌≡◌, ℕ, List, [], ◌∷◌, Result, Ok, Err}
 use Rattle.amf_core.specs.Changes.{ChangeLists, changed, home_now}
+use Rattle.nas_base.specs.Outcomes.{RefusesAs}
+use Rattle.amf_core.specs.Outcome as amf
 use Rattle.amf_core.specs.Step.{Stepped}
 use Rattle.amf_core.specs.declared.inputs.AmfRefusal.{AmfRefusal}
-use Rattle.amf_core.specs.declared.inputs.AmfRefusal.TheVariants as refusals
 use Rattle.amf_core.specs.declared.outs.AmfOut.{AmfOut}
 use Rattle.amf_core.specs.declared.outs.AmfOut.TheVariants as outs
-use Rattle.nas_network.specs.Network.{answered}
+use Rattle.nas_network.specs.Network.{answered, wants_memory}
 use Rattle.nas_network.specs.State.{NetworkState, SubscriberTimers, started_for, stopped_for}
 use Rattle.nas_network.specs.Turns.{Turn, onto, reached}
 use Rattle.nas_network.specs.declared.command.NetDelivery.{NetDelivery}
 use Rattle.nas_network.specs.declared.command.NetRefusal.{NetRefusal}
-use Rattle.nas_network.specs.declared.command.NetRefusal.TheVariants.{UnknownSupi, WrongState, SqnSpent, Memory}
 use Rattle.nas_network.specs.declared.timers.TimerChange.{TimerChange}
 use Rattle.nas_network.specs.declared.timers.TimerChange.TheVariants.{Start, Stop}
 
@@ -61,24 +61,15 @@ left t outs = record { amf = t.network.amf; home = t.network.home; outs = outs }
 
 abbrev pub Reaches : TurningState → Result (TurningState × List AmfOut) AmfRefusal → Result Stepped AmfRefusal → Type 0
 Reaches old (Ok (new, outs)) step = (step ≡ Ok (left new.turn outs)) × (new.turn ≡ reached (left new.turn outs) old.turn) × (new.before ≡ old.before)
-Reaches old (Err refusals.Memory) step = Unit {0}
-Reaches old (Err refusals.UnknownSupi) step = step ≡ Err refusals.UnknownSupi
-Reaches old (Err (refusals.WrongState word)) step = step ≡ Err (refusals.WrongState word)
-Reaches old (Err (refusals.SqnSpent n)) step = step ≡ Err (refusals.SqnSpent n)
+Reaches old (Err refusal) step = RefusesAs amf.wants_memory refusal step
 
 -- the same with what goes out
 abbrev pub StepsOn : TurningState → Result TurningState AmfRefusal → Result Stepped AmfRefusal → Type 0
 StepsOn old (Ok new) (Ok s) = (new.turn ≡ onto (Ok s) old.turn) × (new.before ≡ old.before)
 StepsOn old (Ok new) (Err refusal) = ⊥
-StepsOn old (Err refusals.Memory) step = Unit {0}
-StepsOn old (Err refusals.UnknownSupi) step = step ≡ Err refusals.UnknownSupi
-StepsOn old (Err (refusals.WrongState word)) step = step ≡ Err (refusals.WrongState word)
-StepsOn old (Err (refusals.SqnSpent n)) step = step ≡ Err (refusals.SqnSpent n)
+StepsOn old (Err refusal) step = RefusesAs amf.wants_memory refusal step
 
 -- what a command comes to, where the network takes it over
 abbrev pub FollowsCommand : NetworkState → Result (TurnChanges × NetDelivery) NetRefusal → Result Turn NetRefusal → Type 0
 FollowsCommand n (Ok followed) row = row ≡ Ok (answered (taken_over followed.0 n) followed.1)
-FollowsCommand n (Err Memory) row = Unit {0}
-FollowsCommand n (Err UnknownSupi) row = row ≡ Err UnknownSupi
-FollowsCommand n (Err (WrongState word)) row = row ≡ Err (WrongState word)
-FollowsCommand n (Err (SqnSpent sqn)) row = row ≡ Err (SqnSpent sqn)
+FollowsCommand n (Err refusal) row = RefusesAs wants_memory refusal row

@@ -4,7 +4,7 @@ use Rattle.nas_security.specs.declared.sends.Pass.{Pass}
 use Rattle.nas_security.specs.declared.sends.Send.{Send}
 use Rattle.amf_core.specs.Step.{Stepped, step_of}
 use Rattle.amf_core.specs.declared.inputs.AmfInput.{AmfInput}
-use Rattle.amf_core.specs.declared.inputs.AmfInput.TheVariants.{Uplink, Expired, Authenticate, Deregister, Fence, Sessions, Down, Dropped}
+use Rattle.amf_core.specs.declared.inputs.AmfInput.TheVariants.{Uplink, Expired, Authenticate, Deregister, Update, Fence, Sessions, Down, Dropped}
 use Rattle.amf_core.specs.declared.inputs.AmfRefusal.{AmfRefusal}
 use Rattle.amf_core.specs.declared.outs.AmfOut.{AmfOut}
 use Rattle.amf_core.specs.declared.outs.AmfOut.TheVariants as outs
@@ -51,6 +51,7 @@ turned rand input t = onto (stepped rand input t) t
 abbrev pub is_unrefused : AmfInput → Bool
 is_unrefused (Authenticate supi) = false
 is_unrefused (Deregister supi) = false
+is_unrefused (Update supi) = false
 is_unrefused (Uplink link fresh octets) = true
 is_unrefused (Expired supi id) = true
 is_unrefused (Fence supi) = true

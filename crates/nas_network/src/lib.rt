@@ -5,6 +5,7 @@
 mod beginning;
 mod command;
 mod config;
+pub mod laws;
 mod network;
 mod ticks;
 mod timers;

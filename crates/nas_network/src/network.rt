@@ -14,7 +14,7 @@ use crate::ticks::{due_list, fire_all};
 use crate::timers::{SubscriberTimers, change_all, copies, none_run};
 use crate::turn::{NetTurn, Turning};
 use crate::{NetCommand, NetConfig, NetDelivery, NetRefusal};
-use amf_core::{Amf, AmfInput, AmfRefusal, NetView};
+use amf_core::{Amf, AmfInput, NetView};
 use milenage::Home;
 use nas_base::{Memory, Moment, Octets, Supi};
 use nas_elements::Guti;
@@ -29,7 +29,7 @@ const NO_RAND: [u8; 16] = [0, 0, 0, 0, 0, 0, 0, 0, 0, 0, 0, 0, 0, 0, 0, 0];
 
 /// A network: its AMF, its home network, the timers that run for each subscriber, and the moment that it was told last. For each
 /// subscriber the timer of a procedure runs exactly while that procedure is open: T3560 while a challenge is, T3550 while an acceptance
-/// is, T3522 while a de-registration by the network is (TS 24.501 clause 10.2).
+/// is, T3555 while an update is, T3522 while a de-registration by the network is (TS 24.501 clause 10.2).
 ///
 /// Each event has two calls: `follow_..` prepares what comes of it on a network that stays as it is, and `take_over` takes that over
 /// without memory and without fail; `command`, `deliver`, `tick` and `drop_link` do both. None of them copies a network: an event costs
@@ -96,7 +96,9 @@ impl Network {
     /// # Errors
     ///
     /// `UnknownSupi` exactly where the SUPI is no subscriber; else `WrongState` exactly where its word isn't Registered or a procedure of
-    /// it is open; else, of `Authenticate`, `SqnSpent` exactly where SQN_HE is 2^48 - 1. Or `Memory`. All is then as before.
+    /// it is open; else, of `Authenticate`, `SqnSpent` exactly where SQN_HE is 2^48 - 1; else, of `Update`, in this order, `Uncompleted`
+    /// exactly where the last 5G-GUTI that was offered isn't confirmed, `Updated` exactly where the context in use has had an update,
+    /// `TmsiSpent` exactly where no 5G-TMSI is left. Or `Memory`. All is then as before.
     pub fn command(
         &mut self,
         alloc: Global,
@@ -256,7 +258,8 @@ impl Network {
         self.amf.view(supi)
     }
 
-    /// A law of every network: two 5G-GUTIs at most are kept for each subscriber (TS 24.501 clause 5.5.1.2.4). It does nothing.
+    /// A law of every network: two 5G-GUTIs at most are kept for each subscriber (TS 24.501 clauses 5.4.4 and 5.5.1.2.4). It does
+    /// nothing.
     pub fn keeps_few(&self)
         ensures { all_keep_few self.now.amf.subscribers ≡ true }
     {
@@ -283,10 +286,7 @@ impl Network {
         let turning = Turning::begin(alloc, self, self.moment);
         match turning.step(alloc, rand, &command.to_amf()) {
             Ok(turning) => Ok(turning.end()),
-            Err(AmfRefusal::UnknownSupi) => Err(NetRefusal::UnknownSupi),
-            Err(AmfRefusal::WrongState { state }) => Err(NetRefusal::WrongState { state }),
-            Err(AmfRefusal::SqnSpent { sqn }) => Err(NetRefusal::SqnSpent { sqn }),
-            Err(AmfRefusal::Memory) => Err(NetRefusal::Memory),
+            Err(refusal) => Err(NetRefusal::from_amf(refusal)),
         }
     }
 

@@ -217,6 +217,9 @@ impl<'a> Firing<'a> {
             Err(AmfRefusal::UnknownSupi) => unreachable!(),
             Err(AmfRefusal::WrongState { state: _ }) => unreachable!(),
             Err(AmfRefusal::SqnSpent { sqn: _ }) => unreachable!(),
+            Err(AmfRefusal::Uncompleted { tmsi: _ }) => unreachable!(),
+            Err(AmfRefusal::Updated { tmsi: _ }) => unreachable!(),
+            Err(AmfRefusal::TmsiSpent { last: _ }) => unreachable!(),
         }
     }
 }

@@ -5,6 +5,7 @@ ghost use Rattle.nas_network.specs.State.{deadline_for, no_timers, started_for, 
 
 use crate::Subscriber;
 use amf_core::AmfOut;
+use mm_entity::is_same_supi;
 use nas_base::{Memory, Moment, Supi};
 use nas_timers::{TimerId, Timers};
 use std::alloc::Global;
@@ -110,7 +111,7 @@ pub fn start_for(timers: &mut [SubscriberTimers], supi: &Supi, id: TimerId, at: 
     ensures { timers.new ≡ started_for supi.now id at timers.old }
 {
     for subscriber in timers.iter_mut() {
-        if subscriber.supi == *supi {
+        if is_same_supi(&subscriber.supi, supi) {
             subscriber.timers.start(id, at);
             return;
         }
@@ -122,7 +123,7 @@ pub fn stop_for(timers: &mut [SubscriberTimers], supi: &Supi, id: TimerId)
     ensures { timers.new ≡ stopped_for supi.now id timers.old }
 {
     for subscriber in timers.iter_mut() {
-        if subscriber.supi == *supi {
+        if is_same_supi(&subscriber.supi, supi) {
             subscriber.timers.stop(id);
             return;
         }
@@ -134,7 +135,7 @@ pub fn deadline_for(timers: &[SubscriberTimers], supi: &Supi, id: TimerId) -> Op
     ensures { result ≡ deadline_for supi.now id timers.now }
 {
     for subscriber in timers {
-        if subscriber.supi == *supi {
+        if is_same_supi(&subscriber.supi, supi) {
             return subscriber.timers.deadline(id);
         }
     }

@@ -15,7 +15,6 @@ mod key_calls;
 mod message_calls;
 mod milenage_calls;
 mod qos_calls;
-mod qos_texts;
 mod session_calls;
 mod timer_calls;
 mod walk_calls;

@@ -8,10 +8,9 @@
 //! default bit, precedence and QFI, and then for each filter a word of its direction, its identifier and its components. Where a list
 //! is refused it is `syntax AT`, `semantic RULE` or `many COUNT`. Numbers are decimal.
 
-use crate::qos_texts::rules_text;
 use nas_base::Writer;
 use nas_qos::{ApplyRefusal, OpsRefusal, QosFault, RuleOps, Rules, apply, read_ops, write_ops};
-use probe_words::{Refusal, octets, word, written};
+use probe_words::{Refusal, octets, rules_text, word, written};
 use std::alloc::Global;
 
 /// The answer to a call.
@@ -52,7 +51,7 @@ fn applied(alloc: Global, lists: &[&str]) -> Result<String, Refusal> {
             Err(refusal) => return refused(alloc, refusal),
         };
     }
-    rules_text(alloc, rules.as_slice())
+    rules_text(alloc, rules.as_slice(), " ")
 }
 
 fn unread(alloc: Global, refusal: OpsRefusal) -> Result<String, Refusal> {

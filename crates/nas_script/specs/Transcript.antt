@@ -9,7 +9,7 @@ use Rattle.nas_world.specs.Agree.{agree, at_handset, at_network}
 use Rattle.nas_world.specs.Events.{step_of}
 use Rattle.nas_world.specs.State.{WorldState, first, honest}
 use Rattle.nas_world.specs.declared.event.RefusedWord.{RefusedWord}
-use Rattle.nas_world.specs.declared.event.RefusedWord.TheVariants.{WrongState, Spent, UnknownSupi, SqnSpent}
+use Rattle.nas_world.specs.declared.event.RefusedWord.TheVariants.{WrongState, Spent, UnknownSupi, SqnSpent, Uncompleted, Updated, TmsiSpent}
 use Rattle.nas_world.specs.declared.seen.Seen.{Seen}
 use Rattle.nas_script.specs.Ends.{net_text, ue_text}
 
@@ -46,6 +46,9 @@ refusal_text WrongState = codes "  refused WrongState\n"
 refusal_text Spent = codes "  refused Spent\n"
 refusal_text UnknownSupi = codes "  refused UnknownSupi\n"
 refusal_text SqnSpent = codes "  refused SqnSpent\n"
+refusal_text Uncompleted = codes "  refused Uncompleted\n"
+refusal_text Updated = codes "  refused Updated\n"
+refusal_text TmsiSpent = codes "  refused TmsiSpent\n"
 
 abbrev pub refused_text : Option RefusedWord → List ℕ
 refused_text None = []

@@ -81,6 +81,9 @@ fn append_refusal(text: &mut Vec<u8>, word: RefusedWord) -> Result<(), Memory>
         RefusedWord::Spent => append(text, b"  refused Spent\n"),
         RefusedWord::UnknownSupi => append(text, b"  refused UnknownSupi\n"),
         RefusedWord::SqnSpent => append(text, b"  refused SqnSpent\n"),
+        RefusedWord::Uncompleted => append(text, b"  refused Uncompleted\n"),
+        RefusedWord::Updated => append(text, b"  refused Updated\n"),
+        RefusedWord::TmsiSpent => append(text, b"  refused TmsiSpent\n"),
     }
 }
 

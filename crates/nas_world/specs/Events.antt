@@ -106,6 +106,9 @@ abbrev pub net_refusal : NetRefusal → Seen
 net_refusal net_refusals.UnknownSupi = refusal words.UnknownSupi
 net_refusal (net_refusals.WrongState word) = refusal words.WrongState
 net_refusal (net_refusals.SqnSpent n) = refusal words.SqnSpent
+net_refusal (net_refusals.Uncompleted tmsi) = refusal words.Uncompleted
+net_refusal (net_refusals.Updated tmsi) = refusal words.Updated
+net_refusal (net_refusals.TmsiSpent last) = refusal words.TmsiSpent
 net_refusal net_refusals.Memory = sends []
 
 abbrev pub net_outcome : Result network_turns.Turn NetRefusal → WorldState → WorldState × Seen

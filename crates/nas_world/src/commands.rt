@@ -47,6 +47,15 @@ impl World {
             Err(NetRefusal::SqnSpent { sqn: _ }) => {
                 Ok(Seen::refusal(alloc, RefusedWord::SqnSpent))
             }
+            Err(NetRefusal::Uncompleted { tmsi: _ }) => {
+                Ok(Seen::refusal(alloc, RefusedWord::Uncompleted))
+            }
+            Err(NetRefusal::Updated { tmsi: _ }) => {
+                Ok(Seen::refusal(alloc, RefusedWord::Updated))
+            }
+            Err(NetRefusal::TmsiSpent { last: _ }) => {
+                Ok(Seen::refusal(alloc, RefusedWord::TmsiSpent))
+            }
             Err(NetRefusal::Memory) => Err(Memory),
         }
     }

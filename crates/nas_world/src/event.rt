@@ -53,4 +53,10 @@ pub enum RefusedWord {
     UnknownSupi,
     /// The subscriber has no sequence number left.
     SqnSpent,
+    /// The last 5G-GUTI that was offered isn't confirmed.
+    Uncompleted,
+    /// The context in use has had an update.
+    Updated,
+    /// No 5G-TMSI is left.
+    TmsiSpent,
 }

@@ -1,9 +1,34 @@
-//! The names of timers.
+//! The names of timers, and times.
+ghost use Rattle.std.specs.Prelude.{◌≡◌, true, IfOk};
+ghost use Rattle.nas_timers.specs.Durations.{is_duration};
 
 use crate::decimal_words::session;
 use crate::refusals::Refusal;
-use nas_base::Psi;
+use nas_base::{Moment, Psi};
 use nas_timers::TimerId;
+
+// 10^15, the last moment.
+const LAST_MOMENT: u64 = 1_000_000_000_000_000;
+
+const DAY: u64 = 86_400_000;
+
+/// A moment in milliseconds, at most 10^15.
+pub fn moment(word: &str) -> Result<Moment, Refusal> {
+    match word.parse::<u64>() {
+        Ok(ms) if ms <= LAST_MOMENT => Ok(Moment(ms)),
+        _ => Err(Refusal::Unreadable),
+    }
+}
+
+/// How long a timer runs, in milliseconds: 1 to 86,400,000.
+pub fn duration(word: &str) -> Result<Moment, Refusal>
+    ensures { IfOk result (λ moment. is_duration moment ≡ true) }
+{
+    match word.parse::<u64>() {
+        Ok(ms) if 1 <= ms && ms <= DAY => Ok(Moment(ms)),
+        _ => Err(Refusal::Unreadable),
+    }
+}
 
 /// The name of a timer, as `T3510`, or as `T3580/15` with its PDU session.
 pub fn timer(word: &str) -> Result<TimerId, Refusal> {

@@ -1,5 +1,6 @@
 -- What octets that reach a handset start, stop and say.
 use Rattle.std.proofs.Common.{◌≡◌, refl, ℕ, ◌==◌, ◌||◌, Bool, false, not, List, drop, length, nat_lt, Option, None, Result, Ok, Err, slice_index_or}
+use Rattle.nas_base.specs.declared.count.Dir.TheVariants.{Down}
 use Rattle.nas_base.specs.Branches.{per, when◌then◌else◌}
 use Rattle.nas_base.specs.declared.mm_cause.TheConstants as cause
 use Rattle.nas_elements.specs.declared.asi.Asi.{Asi}
@@ -11,8 +12,10 @@ use Rattle.mm_messages.specs.declared.message.Mm.{Mm}
 use Rattle.mm_messages.specs.declared.message.MmRefusal.{MmRefusal}
 use Rattle.mm_messages.specs.declared.message.MmRefusal.TheVariants as refusals
 use Rattle.mm_messages.specs.declared.security_mode.SecurityModeCommand.{SecurityModeCommand}
-use Rattle.ue_mm.specs.Checks.{Opened, counted, noted, opened, with_count}
-use Rattle.ue_mm.specs.Delivery.{action, by_table, command_of, delivered, five_gmm_status, header_of, is_permitted_type, is_plain_allowed, new_context, passed, passed_read, plain, plain_by_table, plain_read, protected}
+use Rattle.mm_entity.specs.Opening.{Opened, opened, with_count}
+use Rattle.ue_mm.specs.Checks.{counted, noted}
+use Rattle.mm_entity.specs.Heads.{five_gmm_status, header_of}
+use Rattle.ue_mm.specs.Delivery.{action, by_table, command_of, delivered, is_permitted_type, is_plain_allowed, new_context, passed, passed_read, plain, plain_by_table, plain_read, protected}
 use Rattle.ue_mm.specs.Laws.{running_in}
 use Rattle.ue_mm.specs.SecurityMode.{are_supported, command_completed, command_passed, command_picked, command_repeated, command_under_current, command_under_pending, is_acceptable, made, picked_current, picked_pending, security_mode_commanded, taken_into_use}
 use Rattle.ue_mm.specs.State.{is_deregistering}
@@ -121,14 +124,14 @@ picked_is_done s link command octets w h =
     (λ _. per_holds (λ (x : Work). IsDone s link x) (picked_current command.ksi w) w
     (λ (context : SecurityContext). command_under_current command context octets w)
     (λ _. begun_is_done s link w h)
-    (λ context _. per_holds (λ (x : Work). IsDone s link x) (opened context octets) w
+    (λ context _. per_holds (λ (x : Work). IsDone s link x) (opened context Down octets) w
     (λ (o : Opened). command_repeated command (counted context o.count w))
     (λ _. begun_is_done s link w h)
     (λ o _. repeated_is_done s link command (counted context o.count w) (counted_is_begun s link context o.count w h))))
-    (λ p _. per_holds (λ (x : Work). IsDone s link x) (opened (made p command.algs) octets) w
-    (λ (o : Opened). command_passed command (with_count o.count (made p command.algs)) (noted (made p command.algs) o.count w))
+    (λ p _. per_holds (λ (x : Work). IsDone s link x) (opened (made p command.algs) Down octets) w
+    (λ (o : Opened). command_passed command (with_count (made p command.algs) Down o.count) (noted (made p command.algs) o.count w))
     (λ _. begun_is_done s link w h)
-    (λ o _. command_passed_is_done s link command (with_count o.count (made p command.algs)) (noted (made p command.algs) o.count w)
+    (λ o _. command_passed_is_done s link command (with_count (made p command.algs) Down o.count) (noted (made p command.algs) o.count w)
     (noted_is_begun s link (made p command.algs) o.count w h)))
 
 new_context_is_done : (s : Summary) (link : Bool) (octets : List ℕ) (w : Work) → IsBegun s link (running_in w.phase) w
@@ -146,7 +149,7 @@ unfolding protected
 protected_is_done s link octets w h =
     per_holds (λ (x : Work). IsDone s link x) w.common.current w _
     (λ _. begun_is_done s link w h)
-    (λ context _. per_holds (λ (x : Work). IsDone s link x) (opened context octets) w
+    (λ context _. per_holds (λ (x : Work). IsDone s link x) (opened context Down octets) w
     (λ (o : Opened). passed o.message (counted context o.count w))
     (λ _. begun_is_done s link w h)
     (λ o _. passed_is_done s link o.message (counted context o.count w) (counted_is_begun s link context o.count w h)))

@@ -1,8 +1,11 @@
 -- What goes out is what was said, but for messages that aren't sent.
-use Rattle.std.proofs.Common.{◌≡◌, refl, sym, ap, subst, ◌∙◌, ◌==◌, ◌^◌, ◌||◌, Bool, true, false, ℕ, List, [], ◌∷◌, ◌++◌, None}
+use Rattle.std.proofs.Common.{◌≡◌, refl, sym, ap, subst, ◌∙◌, Bool, true, false, ℕ, List, [], ◌∷◌, ◌++◌, Option, None}
 use Rattle.nas_timers.specs.declared.timer_id.TimerId.{TimerId}
 use Rattle.mm_messages.specs.Messages.{spelling}
-use Rattle.ue_mm.specs.Framing.{framed, framed_all, framed_plain, framed_protected, is_too_long}
+use Rattle.nas_base.specs.declared.count.Dir.TheVariants.{Up}
+use Rattle.nas_security.specs.declared.sends.Pass.{Pass}
+use Rattle.mm_entity.specs.Framing.{is_too_long, is_unsent}
+use Rattle.ue_mm.specs.Framing.{framed, framed_all, framed_plain, framed_protected}
 use Rattle.ue_mm.specs.Laws.{HaveOwner, Running, with_timer}
 use Rattle.ue_mm.specs.declared.acts.Act.{Act}
 use Rattle.ue_mm.specs.declared.acts.Act.TheVariants.{Say, Tell}
@@ -113,14 +116,35 @@ protected_goes_out supi header fresh message s other f h =
     per_holds (λ (g : Framed). GoesOut s (record other { sent = one_more fresh other.sent }) g) f.current f _
     (λ _. unsent fresh s other f h)
     (λ context _. when_holds (λ (g : Framed). GoesOut s (record other { sent = one_more fresh other.sent }) g)
-    (is_too_long message || context.up == 2 ^ 24) f _
+    (is_unsent message context Up) f _
     (λ _. unsent fresh s other f h)
     (λ _. record { smaller = (out_goes_out (Send fresh _ _) s other f h).smaller }))
+
+-- a message that is told, which no row does
+any_more : (s : Sent) → IsWithin s more
+any_more none = tt
+any_more (one fresh) = tt
+any_more more = tt
+
+told_goes_out : (fresh : Bool) (octets : List ℕ) (pass : Option Pass) (s other : Summary) (f : Framed) → GoesOut s other f
+    → GoesOut s (record other { sent = more }) (record f { outs = f.outs ++ Send fresh octets pass ∷ [] })
+told_goes_out fresh octets pass s other f h =
+    let out = (out_goes_out (Send fresh octets pass) s other f h).smaller in
+    record { smaller = record { running = out.running; started = out.started; sent = any_more _ } }
 
 act_goes_out : (supi : List ℕ) (act : Act) (s other : Summary) (f : Framed) → GoesOut s other f
     → GoesOut s (summed_act act other) (framed supi act f)
 unfolding framed
-act_goes_out supi (Tell out) s other f h = out_goes_out out s other f h
+act_goes_out supi (Tell (Send fresh octets pass)) s other f h = told_goes_out fresh octets pass s other f h
+act_goes_out supi (Tell (Start id at)) s other f h = out_goes_out (Start id at) s other f h
+act_goes_out supi (Tell (Stop id)) s other f h = out_goes_out (Stop id) s other f h
+act_goes_out supi (Tell (Passed pass)) s other f h = out_goes_out (Passed pass) s other f h
+act_goes_out supi (Tell (Took context)) s other f h = out_goes_out (Took context) s other f h
+act_goes_out supi (Tell (ToSession octets)) s other f h = out_goes_out (ToSession octets) s other f h
+act_goes_out supi (Tell (NotForwarded octets)) s other f h = out_goes_out (NotForwarded octets) s other f h
+act_goes_out supi (Tell Abandon) s other f h = out_goes_out Abandon s other f h
+act_goes_out supi (Tell Clear) s other f h = out_goes_out Clear s other f h
+act_goes_out supi (Tell (Keep held)) s other f h = out_goes_out (Keep held) s other f h
 act_goes_out supi (Say fresh Plain message) s other f h = plain_goes_out fresh (spelling message) s other f h
 act_goes_out supi (Say fresh IntegrityProtected message) s other f h = protected_goes_out supi 1 fresh (spelling message) s other f h
 act_goes_out supi (Say fresh Ciphered message) s other f h = protected_goes_out supi 2 fresh (spelling message) s other f h

@@ -2,6 +2,7 @@ pub mod DeliveryRows
 pub mod EventRows
 pub mod Fits
 pub mod FramedSummary
+pub mod LengthLaws
 pub mod MessageRows
 pub mod PlainLaws
 pub mod PlainSecurity
@@ -10,4 +11,5 @@ pub mod RowTools
 pub mod StepLaws
 pub mod StopLaws
 pub mod Summary
+pub mod ToldRows
 pub mod UncheckedLaws

@@ -12,6 +12,7 @@ use Rattle.milenage.specs.declared.autn.AutnAnswer.TheVariants.{Accepted, MacFai
 use Rattle.nas_elements.specs.declared.guti.Guti.{Guti}
 use Rattle.nas_timers.specs.declared.timer_id.TimerId.TheVariants.{T3510, T3516, T3517}
 use Rattle.mm_messages.specs.declared.authentication.AuthenticationRequest.{AuthenticationRequest}
+use Rattle.mm_messages.specs.declared.configuration_update.ConfigurationUpdateCommand.{ConfigurationUpdateCommand}
 use Rattle.mm_messages.specs.declared.identification.IdentityRequest.{IdentityRequest}
 use Rattle.mm_messages.specs.declared.message.Mm.{Mm}
 use Rattle.mm_messages.specs.declared.message.Mm.TheVariants as mm
@@ -20,10 +21,11 @@ use Rattle.mm_messages.specs.declared.registration.RegistrationReject.{Registrat
 use Rattle.mm_messages.specs.declared.service.ServiceReject.{ServiceReject}
 use Rattle.mm_messages.specs.declared.transport.DlNasTransport.{DlNasTransport}
 use Rattle.ue_mm.specs.Authentication.{accepted, answer_again, answered, authentication_requested, challenged, failure, is_ksi_refused}
+use Rattle.ue_mm.specs.ConfigurationUpdate.{configuration_updated, is_acknowledgement_requested, renamed_by}
 use Rattle.ue_mm.specs.Connection.{deregistered, erased}
 use Rattle.ue_mm.specs.Delivery.{action, taken}
 use Rattle.ue_mm.specs.Deregistration.{deregistration_requested}
-use Rattle.ue_mm.specs.Identification.{identity_requested}
+use Rattle.ue_mm.specs.Identification.{identity_requested, renamed}
 use Rattle.ue_mm.specs.Laws.{Running, no_timer, running_in, with_timer}
 use Rattle.ue_mm.specs.Registration.{kept, named, registration_accepted, registration_rejected}
 use Rattle.ue_mm.specs.Service.{service_accepted, service_rejected}
@@ -88,7 +90,7 @@ named_is_quiet : (s : Summary) (link : Bool) (guti : Option Guti) (w : Work) →
 named_is_quiet s link guti w h =
     per_holds (λ (x : Work). IsQuiet s link (running_in w.phase) x) guti w _
     (λ _. begun_is_quiet s link (running_in w.phase) w h)
-    (λ g _. answer_is_quiet s link (running_in w.phase) (record w { common = record w.common { guti = Some g } }) mm.RegistrationComplete
+    (λ g _. answer_is_quiet s link (running_in w.phase) (renamed g w) mm.RegistrationComplete
     (record { said = h.said; linked = h.linked }))
 
 named_is_done : (s : Summary) (link : Bool) (guti : Option Guti) (w : Work) → IsBegun s link (running_in w.phase) w
@@ -96,8 +98,7 @@ named_is_done : (s : Summary) (link : Bool) (guti : Option Guti) (w : Work) → 
 named_is_done s link guti w h =
     per_holds (λ (x : Work). IsDone s link x) guti w _
     (λ _. begun_is_done s link w h)
-    (λ g _. answer_is_done s link (record w { common = record w.common { guti = Some g } }) mm.RegistrationComplete
-    (record { said = h.said; linked = h.linked }))
+    (λ g _. answer_is_done s link (renamed g w) mm.RegistrationComplete (record { said = h.said; linked = h.linked }))
 
 -- a registration that ends has its timer stopped
 registered_is_quiet : (s : Summary) (link : Bool) (w : Work) → IsQuiet s link (with_timer T3510 true no_timer) w
@@ -198,6 +199,22 @@ transport_is_done s link m w h =
     (λ n _. done_of s link _ (summed w.acts s) (simp onto) (begun_is_done s link w h).sound))
     (λ _. begun_is_done s link w h)
 
+-- a 5G-GUTI that is taken without a registration says nothing, and COMPLETE is an answer
+renaming_is_begun : (s : Summary) (link : Bool) (guti : Option Guti) (w : Work) → IsBegun s link (running_in w.phase) w
+    → IsBegun s link (running_in (renamed_by guti w).phase) (renamed_by guti w)
+renaming_is_begun s link guti w h =
+    per_holds (λ (x : Work). IsBegun s link (running_in x.phase) x) guti w _
+    (λ _. h) (λ g _. record { said = h.said; linked = h.linked })
+
+update_is_done : (s : Summary) (link : Bool) (m : ConfigurationUpdateCommand) (w : Work) → IsBegun s link (running_in w.phase) w
+    → IsDone s link (configuration_updated m w)
+unfolding configuration_updated
+update_is_done s link m w h =
+    let begun = renaming_is_begun s link m.guti w h in
+    when_holds (λ (x : Work). IsDone s link x) (is_acknowledgement_requested m.indication) _ (renamed_by m.guti w)
+    (λ _. answer_is_done s link (renamed_by m.guti w) mm.ConfigurationUpdateComplete begun)
+    (λ _. begun_is_done s link (renamed_by m.guti w) begun)
+
 -- the row of each message
 pub taken_is_done : (s : Summary) (link : Bool) (m : Mm) (w : Work) → action m w ≡ Take → IsBegun s link (running_in w.phase) w
     → IsDone s link (taken m w)
@@ -212,13 +229,13 @@ taken_is_done s link (mm.ServiceReject m) w e h = service_rejection_is_done s li
 taken_is_done s link (mm.DeregistrationRequestUeTerminated m) w e h = deregistration_is_done s link w h
 taken_is_done s link mm.DeregistrationAcceptUeOriginating w e h = deregisters s link w h
 taken_is_done s link (mm.DlNasTransport m) w e h = transport_is_done s link m w h
+taken_is_done s link (mm.ConfigurationUpdateCommand m) w e h = update_is_done s link m w h
 taken_is_done s link (mm.SecurityModeCommand m) w e h = begun_is_done s link w h
 taken_is_done s link (mm.RegistrationRequest m) w e h = begun_is_done s link w h
 taken_is_done s link mm.RegistrationComplete w e h = begun_is_done s link w h
 taken_is_done s link (mm.DeregistrationRequestUeOriginating m) w e h = begun_is_done s link w h
 taken_is_done s link mm.DeregistrationAcceptUeTerminated w e h = begun_is_done s link w h
 taken_is_done s link (mm.ServiceRequest m) w e h = begun_is_done s link w h
-taken_is_done s link (mm.ConfigurationUpdateCommand m) w e h = begun_is_done s link w h
 taken_is_done s link mm.ConfigurationUpdateComplete w e h = begun_is_done s link w h
 taken_is_done s link (mm.AuthenticationResponse m) w e h = begun_is_done s link w h
 taken_is_done s link (mm.AuthenticationFailure m) w e h = begun_is_done s link w h

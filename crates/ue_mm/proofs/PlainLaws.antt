@@ -11,7 +11,8 @@ use Rattle.mm_messages.specs.Messages.{mm_in}
 use Rattle.mm_messages.specs.declared.message.Mm.{Mm}
 use Rattle.mm_messages.specs.declared.message.Mm.TheVariants as mm
 use Rattle.mm_messages.specs.declared.message.MmRefusal.{MmRefusal}
-use Rattle.ue_mm.specs.Delivery.{action, delivered, header_of, is_permitted_type, is_plain_allowed, new_context, plain, plain_by_table, plain_read, protected}
+use Rattle.mm_entity.specs.Heads.{header_of}
+use Rattle.ue_mm.specs.Delivery.{action, delivered, is_permitted_type, is_plain_allowed, new_context, plain, plain_by_table, plain_read, protected}
 use Rattle.ue_mm.specs.Laws.{AreReadPlain, Does, PlainDoByKind}
 use Rattle.ue_mm.specs.State.{MmState}
 use Rattle.ue_mm.specs.Step.{ended, started, worked}

@@ -24,8 +24,10 @@ use Rattle.mm_messages.specs.declared.registration.RegistrationReject.{Registrat
 use Rattle.mm_messages.specs.declared.service.ServiceReject.{ServiceReject}
 use Rattle.ue_mm.specs.Authentication.{accepted, answer_again, answered, authentication_requested, challenged, failure, is_ksi_refused}
 use Rattle.ue_mm.specs.Connection.{deregistered, erased, idle}
-use Rattle.ue_mm.specs.Delivery.{action, delivered, header_of, is_permitted_type, is_plain_allowed, new_context, plain, plain_by_table, plain_read, protected, taken}
-use Rattle.ue_mm.specs.Framing.{framed, framed_all, is_too_long}
+use Rattle.mm_entity.specs.Heads.{header_of}
+use Rattle.ue_mm.specs.Delivery.{action, delivered, is_permitted_type, is_plain_allowed, new_context, plain, plain_by_table, plain_read, protected, taken}
+use Rattle.mm_entity.specs.Framing.{is_too_long}
+use Rattle.ue_mm.specs.Framing.{framed, framed_all}
 use Rattle.ue_mm.specs.Identification.{identity_requested}
 use Rattle.ue_mm.specs.Laws.{PlainSecuresNothing, SecuresNothing}
 use Rattle.ue_mm.specs.Registration.{registration_rejected}
@@ -203,13 +205,13 @@ taken_unsecured current (mm.RegistrationAccept m) w e h = absurd (cc)
 taken_unsecured current (mm.ServiceAccept m) w e h = absurd (cc)
 taken_unsecured current (mm.DeregistrationRequestUeTerminated m) w e h = absurd (cc)
 taken_unsecured current (mm.DlNasTransport m) w e h = absurd (cc)
+taken_unsecured current (mm.ConfigurationUpdateCommand m) w e h = absurd (cc)
 taken_unsecured current (mm.SecurityModeCommand m) w e h = h
 taken_unsecured current (mm.RegistrationRequest m) w e h = h
 taken_unsecured current mm.RegistrationComplete w e h = h
 taken_unsecured current (mm.DeregistrationRequestUeOriginating m) w e h = h
 taken_unsecured current mm.DeregistrationAcceptUeTerminated w e h = h
 taken_unsecured current (mm.ServiceRequest m) w e h = h
-taken_unsecured current (mm.ConfigurationUpdateCommand m) w e h = h
 taken_unsecured current mm.ConfigurationUpdateComplete w e h = h
 taken_unsecured current (mm.AuthenticationResponse m) w e h = h
 taken_unsecured current (mm.AuthenticationFailure m) w e h = h

@@ -41,8 +41,10 @@ abbrev pub summed_outs : List UeOut → Summary → Summary
 summed_outs [] s = s
 summed_outs (out ∷ outs) s = summed_outs outs (summed_out out s)
 
+-- A message is said, and never told: to tell one counts as too many.
 abbrev pub summed_act : Act → Summary → Summary
 summed_act (Say fresh protection message) s = record s { sent = one_more fresh s.sent }
+summed_act (Tell (Send fresh octets pass)) s = record s { sent = more }
 summed_act (Tell out) s = summed_out out s
 
 abbrev pub summed : List Act → Summary → Summary

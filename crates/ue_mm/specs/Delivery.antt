@@ -1,5 +1,6 @@
 -- What a handset makes of octets that reach it (TS 24.501 clauses 4.4.4.2 and 7).
-use Rattle.std.specs.Prelude.{ℕ, Bool, false, not, ◌==◌, ◌||◌, ◌%◌, List, length, drop, slice_index_or, nat_lt, Option, Some, None, Result, Ok, Err}
+use Rattle.std.specs.Prelude.{ℕ, Bool, false, not, ◌==◌, ◌||◌, List, nat_lt, Option, Some, None, Result, Ok, Err}
+use Rattle.nas_base.specs.declared.count.Dir.TheVariants.{Down}
 use Rattle.nas_base.specs.Branches.{per, when◌then◌else◌}
 use Rattle.nas_base.specs.Kinds.{mm_kind}
 use Rattle.nas_base.specs.declared.mm_cause.TheConstants as cause
@@ -7,6 +8,8 @@ use Rattle.collision_rules.specs.Mm.{collide_mm}
 use Rattle.collision_rules.specs.Plain.{permitted_ue}
 use Rattle.collision_rules.specs.declared.action.Action.{Action}
 use Rattle.collision_rules.specs.declared.action.Action.TheVariants.{Take, Discard, Status98, Status43, Status47}
+use Rattle.mm_entity.specs.Heads.{five_gmm_status, header_of, inside, is_too_many, type_of}
+use Rattle.mm_entity.specs.Opening.{Opened, opened}
 use Rattle.nas_security.specs.Contexts.{SecurityContext}
 use Rattle.mm_messages.specs.KindOf.{kind_of}
 use Rattle.mm_messages.specs.Messages.{mm_in}
@@ -16,7 +19,8 @@ use Rattle.mm_messages.specs.declared.message.MmRefusal.{MmRefusal}
 use Rattle.mm_messages.specs.declared.message.MmRefusal.TheVariants as refusals
 use Rattle.mm_messages.specs.declared.security_mode.SecurityModeCommand.{SecurityModeCommand}
 use Rattle.ue_mm.specs.Authentication.{authentication_requested}
-use Rattle.ue_mm.specs.Checks.{Opened, counted, opened}
+use Rattle.ue_mm.specs.Checks.{counted}
+use Rattle.ue_mm.specs.ConfigurationUpdate.{configuration_updated}
 use Rattle.ue_mm.specs.Connection.{deregistered, erased}
 use Rattle.ue_mm.specs.Deregistration.{deregistration_requested}
 use Rattle.ue_mm.specs.Identification.{identity_requested}
@@ -40,13 +44,13 @@ taken (mm.ServiceReject m) w = service_rejected m w
 taken (mm.DeregistrationRequestUeTerminated m) w = deregistration_requested w
 taken mm.DeregistrationAcceptUeOriginating w = deregistered w
 taken (mm.DlNasTransport m) w = transported m w
+taken (mm.ConfigurationUpdateCommand m) w = configuration_updated m w
 taken (mm.SecurityModeCommand m) w = w
 taken (mm.RegistrationRequest m) w = w
 taken mm.RegistrationComplete w = w
 taken (mm.DeregistrationRequestUeOriginating m) w = w
 taken mm.DeregistrationAcceptUeTerminated w = w
 taken (mm.ServiceRequest m) w = w
-taken (mm.ConfigurationUpdateCommand m) w = w
 taken mm.ConfigurationUpdateComplete w = w
 taken (mm.AuthenticationResponse m) w = w
 taken (mm.AuthenticationFailure m) w = w
@@ -61,11 +65,8 @@ action message w = collide_mm (word_of w.phase) (kind_of message)
 
 -- STATUS 97 and 96 answer a type that isn't known, and a mandatory part that is cut or wrong; 5GMM STATUS is never answered
 -- (clauses 7.4 and 7.5.1)
-abbrev pub five_gmm_status : ℕ
-five_gmm_status = 0x64
-
 abbrev pub faulty : List ℕ → Work → Work
-faulty octets w = when slice_index_or octets 2 0 == five_gmm_status then w else status cause.INVALID_MANDATORY_INFORMATION w
+faulty octets w = when type_of octets == five_gmm_status then w else status cause.INVALID_MANDATORY_INFORMATION w
 
 -- A message that passed goes by the table.
 abbrev pub by_table : Action → Mm → Work → Work
@@ -115,7 +116,7 @@ plain_read (Ok message) octets w = plain_message message w
 plain_read (Err (refusals.Ignored at)) octets w = w
 plain_read (Err (refusals.UnknownType n)) octets w = status cause.MESSAGE_TYPE_NON_EXISTENT_OR_NOT_IMPLEMENTED w
 plain_read (Err (refusals.Mandatory n at)) octets w =
-    when is_permitted_type (slice_index_or octets 2 0) then status cause.INVALID_MANDATORY_INFORMATION w else w
+    when is_permitted_type (type_of octets) then status cause.INVALID_MANDATORY_INFORMATION w else w
 plain_read (Err refusals.Memory) octets w = w
 
 unfoldable pub plain : List ℕ → Work → Work
@@ -130,25 +131,21 @@ abbrev pub command_inside : Option SecurityModeCommand → List ℕ → Work →
 command_inside command octets w = per command w (λ (c : SecurityModeCommand). security_mode_commanded c octets w)
 
 unfoldable pub new_context : List ℕ → Work → Work
-new_context octets w = command_inside (command_of (mm_in (drop 7 octets))) octets w
+new_context octets w = command_inside (command_of (mm_in (inside octets))) octets w
 
 -- a frame of header type 1, 2 or 4, under the current context
 abbrev pub frame_under_current : SecurityContext → List ℕ → Work → Work
 frame_under_current context octets w =
-    per (opened context octets) w (λ (o : Opened). passed o.message (counted context o.count w))
+    per (opened context Down octets) w (λ (o : Opened). passed o.message (counted context o.count w))
 
 unfoldable pub protected : List ℕ → Work → Work
 protected octets w = per w.common.current w (λ (context : SecurityContext). frame_under_current context octets w)
-
--- the security header type
-abbrev pub header_of : List ℕ → ℕ
-header_of octets = slice_index_or octets 1 0 % 16
 
 -- A handset without a connection ignores all octets, and every handset those that are more than 4,096. A plain message and
 -- one of header type 3 are told by their second octet; all others are checked under the current context.
 unfoldable pub delivered : List ℕ → Work → Work
 delivered octets w =
-    when not w.common.connected || nat_lt 4096 (length octets) then w
+    when not w.common.connected || is_too_many octets then w
     else (when header_of octets == 0 then plain octets w
     else (when header_of octets == 3 then new_context octets w
     else protected octets w))

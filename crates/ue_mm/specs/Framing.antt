@@ -1,11 +1,10 @@
 -- How what is said becomes octets: spelled, and protected under the current context (TS 24.501 clause 4.4, TS 33.501 clause 6.4).
-use Rattle.std.specs.Prelude.{◌≡◌, ℕ, ◌+◌, ◌^◌, Bool, true, false, ◌==◌, ◌||◌, List, [], ◌∷◌, ◌++◌, length, nat_lt, Some, None}
+use Rattle.std.specs.Prelude.{ℕ, Bool, List, [], ◌∷◌, ◌++◌, Some, None}
 use Rattle.nas_base.specs.Branches.{per, when◌then◌else◌}
 use Rattle.nas_base.specs.declared.count.Dir.TheVariants.{Up}
 use Rattle.mm_messages.specs.Messages.{spelling}
+use Rattle.mm_entity.specs.Framing.{counted, is_too_long, is_unsent, next_frame, pass_under}
 use Rattle.nas_security.specs.Contexts.{SecurityContext}
-use Rattle.nas_security.specs.Counts.{with_next}
-use Rattle.nas_security.specs.Frame.{frame}
 use Rattle.ue_mm.specs.declared.acts.Act.{Act}
 use Rattle.ue_mm.specs.declared.acts.Act.TheVariants.{Say, Tell}
 use Rattle.ue_mm.specs.declared.acts.Protection.TheVariants.{Plain, IntegrityProtected, Ciphered, CipheredWithNewContext}
@@ -17,26 +16,14 @@ use Rattle.ue_mm.specs.declared.outs.UeOut.TheVariants.{Send}
 abbrev pub framed_out : UeOut → Framed → Framed
 framed_out out f = record f { outs = f.outs ++ out ∷ [] }
 
--- a message whose frame would have more than 4,096 octets isn't sent
-abbrev pub is_too_long : List ℕ → Bool
-is_too_long message = nat_lt 4089 (length message)
-
--- what spelling a message into an empty writer answered: whether it isn't too long, and then it was written
-abbrev pub IsSpelled : Bool → List ℕ → List ℕ → Type 0
-IsSpelled true out message = (is_too_long message ≡ false) × (out ≡ message)
-IsSpelled false out message = is_too_long message ≡ true
-
 abbrev pub framed_plain : Bool → List ℕ → Framed → Framed
 framed_plain fresh message f = when is_too_long message then f else framed_out (Send fresh message None) f
 
--- a message whose context has no count left isn't sent
 abbrev pub framed_under : List ℕ → ℕ → Bool → List ℕ → SecurityContext → Framed → Framed
 framed_under supi header fresh message context f =
-    when is_too_long message || context.up == 2 ^ 24 then f
-    else framed_out
-    (Send fresh (frame context Up context.up header message)
-    (Some (record { supi = supi; challenge = context.challenge; count = context.up })))
-    (record f { current = Some (with_next context Up (context.up + 1)) })
+    when is_unsent message context Up then f
+    else framed_out (Send fresh (next_frame context Up header message) (Some (pass_under supi context Up)))
+    (record f { current = Some (counted context Up) })
 
 abbrev pub framed_protected : List ℕ → ℕ → Bool → List ℕ → Framed → Framed
 framed_protected supi header fresh message f =

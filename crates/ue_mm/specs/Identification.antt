@@ -1,5 +1,5 @@
 -- How the handset names itself, and the identification procedure (TS 24.501 clause 5.4.3).
-use Rattle.std.specs.Prelude.{ℕ, [], ◌∷◌, ◌==◌, Option}
+use Rattle.std.specs.Prelude.{ℕ, [], ◌∷◌, ◌==◌, Option, Some}
 use Rattle.nas_base.specs.Branches.{per, when◌then◌else◌}
 use Rattle.nas_base.specs.Supi.{msin_of}
 use Rattle.nas_base.specs.declared.mm_cause.TheConstants as cause
@@ -25,6 +25,10 @@ identity_of config guti = per guti (identities.Suci (suci_of config)) (λ (g : G
 
 abbrev pub short_identity_of : HandsetValues → Option Guti → Identity
 short_identity_of config guti = per guti (identities.Suci (suci_of config)) (λ (g : Guti). identities.Stmsi (stmsi_of g))
+
+-- the network gives it another 5G-GUTI
+abbrev pub renamed : Guti → Work → Work
+renamed guti w = record w { common = record w.common { guti = Some guti } }
 
 -- the current context by its ngKSI; 7 says that there is none (clause 9.11.3.32)
 abbrev pub ksi_of : Option SecurityContext → ℕ

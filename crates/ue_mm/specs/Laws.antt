@@ -1,11 +1,12 @@
 -- What the definitions of this crate say together.
-use Rattle.std.specs.Prelude.{◌≡◌, ◌≤◌, ◌↔◌, ◌⊎◌, ℕ, Bool, true, false, List, [], ◌∷◌, length, slice_index_or, Some, None, Result, Ok, Err}
+use Rattle.std.specs.Prelude.{◌≡◌, ◌≤◌, ◌⊎◌, ℕ, Bool, true, false, List, [], ◌∷◌, length, flat_map, Some, None, Result, Ok, Err}
 use Rattle.std.specs.List.{Contains}
 use Rattle.nas_base.specs.declared.count.Dir.TheVariants.{Down}
 use Rattle.nas_base.specs.declared.mm_cause.TheConstants as cause
 use Rattle.nas_elements.specs.Algs.{Algorithms}
 use Rattle.nas_security.specs.Contexts.{SecurityContext}
 use Rattle.nas_security.specs.Passing.{Passes}
+use Rattle.nas_security.specs.declared.sends.Pass.{Pass}
 use Rattle.collision_rules.specs.Plain.{permitted_ue}
 use Rattle.collision_rules.specs.declared.action.Action.TheVariants.{Take}
 use Rattle.mm_messages.specs.KindOf.{kind_of}
@@ -14,9 +15,9 @@ use Rattle.mm_messages.specs.declared.message.Mm.{Mm}
 use Rattle.mm_messages.specs.declared.message.MmRefusal.TheVariants as refusals
 use Rattle.nas_timers.specs.declared.timer_id.TimerId.{TimerId}
 use Rattle.nas_timers.specs.declared.timer_id.TimerId.TheVariants.{T3510, T3516, T3517, T3521}
-use Rattle.ue_mm.specs.Checks.{Opened, opened}
 use Rattle.ue_mm.specs.Common.{Common}
-use Rattle.ue_mm.specs.Delivery.{action, header_of, is_permitted_type, is_plain_allowed, taken}
+use Rattle.mm_entity.specs.Heads.{header_of, type_of}
+use Rattle.ue_mm.specs.Delivery.{action, is_permitted_type, is_plain_allowed, taken}
 use Rattle.ue_mm.specs.SecurityMode.{are_supported, made}
 use Rattle.ue_mm.specs.State.{MmState, timer_of}
 use Rattle.ue_mm.specs.Step.{Stepped, ended, started, step_of}
@@ -26,27 +27,48 @@ use Rattle.ue_mm.specs.declared.inputs.StepRefusal.{StepRefusal}
 use Rattle.ue_mm.specs.declared.inputs.UeInput.{UeInput}
 use Rattle.ue_mm.specs.declared.inputs.UeInput.TheVariants.{Delivered, Expired}
 use Rattle.ue_mm.specs.declared.outs.UeOut.{UeOut}
-use Rattle.ue_mm.specs.declared.outs.UeOut.TheVariants.{Send, Start, Stop}
+use Rattle.ue_mm.specs.declared.outs.UeOut.TheVariants.{Send, Passed, Start, Stop}
 use Rattle.ue_mm.specs.declared.procedures.Phase.{Phase}
 use Rattle.ue_mm.specs.declared.procedures.Phase.TheVariants.{Deregistered, Registering, Registered, Serving, Deregistering}
 use Rattle.ue_mm.specs.declared.work.Work.{Work}
 
--- no count, header type and message are there as whose frame these octets pass under a context
-abbrev pub NothingPasses : SecurityContext → List ℕ → Type 0
-NothingPasses context octets = (count header : ℕ) (message : List ℕ) → ¬ (Passes context Down octets count header message)
+-- what goes out tells of passes, in order
+abbrev pub passed_in : UeOut → List Pass
+passed_in (Passed pass) = pass ∷ []
+passed_in _ = []
 
--- What a handset opens is what passes. It opens octets to the count and the message as whose frame they pass, and to nothing exactly
--- where nothing passes.
-pub record IsOpenedWherePassing (context : SecurityContext) (octets : List ℕ) : Type 0 where
-  pub something :
-      (o : Opened) → (opened context octets ≡ Some o) ↔ ((header : ℕ) × Passes context Down octets o.count header o.message)
-  pub nothing : (opened context octets ≡ None) ↔ NothingPasses context octets
+abbrev pub told : List UeOut → List Pass
+told outs = flat_map passed_in outs
 
--- Octets pass no check: not under the current context, and under none that the pending key makes with algorithms that a handset
--- supports.
-pub record PassNoCheck (c : Common) (octets : List ℕ) : Type 0 where
-  pub current : (context : SecurityContext) → c.current ≡ Some context → NothingPasses context octets
-  pub pending : (p : Pending) (algs : Algorithms) → c.pending ≡ Some p → are_supported algs ≡ true → NothingPasses (made p algs) octets
+-- A context that octets may be checked under: the current one, or one that the pending key makes with algorithms that a handset supports.
+abbrev pub IsContextOf : Common → SecurityContext → Type 0
+IsContextOf c context =
+    (c.current ≡ Some context)
+    ⊎ ((p : Pending) × (algs : Algorithms) × (c.pending ≡ Some p) × (are_supported algs ≡ true) × (made p algs ≡ context))
+
+-- These octets passed a check, as it is told: they pass under such a context that has this challenge, at this count.
+pub record WasChecked (c : Common) (octets : List ℕ) (pass : Pass) : Type 0 where
+  pub context : SecurityContext
+  pub header : ℕ
+  pub message : List ℕ
+  pub is_its : c.config.supi ≡ pass.supi
+  pub is_context : IsContextOf c context
+  pub is_challenge : context.challenge ≡ pass.challenge
+  pub passes : Passes context Down octets pass.count header message
+
+abbrev pub WereChecked : Common → List ℕ → List Pass → Type 0
+WereChecked c octets [] = Unit {0}
+WereChecked c octets (pass ∷ passes) = WasChecked c octets pass × WereChecked c octets passes
+
+-- What a step tells as passed, passes.
+abbrev pub OpensWherePassing : MmState → List ℕ → Result Stepped StepRefusal → Type 0
+OpensWherePassing s octets (Ok new) = WereChecked s.common octets (told new.outs)
+OpensWherePassing s octets (Err refusal) = Unit {0}
+
+-- A step tells no message as passed: its octets passed no check, since what passes is told.
+abbrev pub TellsNoPass : Result Stepped StepRefusal → Type 0
+TellsNoPass (Ok new) = told new.outs ≡ []
+TellsNoPass (Err refusal) = Unit {0}
 
 -- Octets are read as plain ones: the handset is connected, nothing was exchanged securely on the connection, and their header type is
 -- 0 and their number at most 4,096.
@@ -61,7 +83,7 @@ DoesNothing s now held input = step_of s now held input ≡ Ok (record { state =
 -- 4.4.4.1 and 4.4.4.2).
 abbrev pub UncheckedDoNothing : MmState → ℕ → List Bool → List ℕ → Type 0
 UncheckedDoNothing s now held octets =
-    PassNoCheck s.common octets → ¬ (AreReadPlain s.common octets) → DoesNothing s now held (Delivered octets)
+    TellsNoPass (step_of s now held (Delivered octets)) → ¬ (AreReadPlain s.common octets) → DoesNothing s now held (Delivered octets)
 
 -- a step that works out so
 abbrev pub Does : MmState → ℕ → List Bool → UeInput → (Work → Work) → Type 0
@@ -79,10 +101,10 @@ pub record PlainDo (s : MmState) (now : ℕ) (held : List Bool) (octets : List �
       (m : Mm) → mm_in octets ≡ Ok m → ¬ (action m (started s now held) ≡ Take) → DoesNothing s now held (Delivered octets)
   pub unknown_type : (n : ℕ) → mm_in octets ≡ Err (refusals.UnknownType n) → Does s now held (Delivered octets) (status cause.MESSAGE_TYPE_NON_EXISTENT_OR_NOT_IMPLEMENTED)
   pub wrong_part :
-      (n at : ℕ) → mm_in octets ≡ Err (refusals.Mandatory n at) → is_permitted_type (slice_index_or octets 2 0) ≡ true
+      (n at : ℕ) → mm_in octets ≡ Err (refusals.Mandatory n at) → is_permitted_type (type_of octets) ≡ true
       → Does s now held (Delivered octets) (status cause.INVALID_MANDATORY_INFORMATION)
   pub other_wrong_part :
-      (n at : ℕ) → mm_in octets ≡ Err (refusals.Mandatory n at) → is_permitted_type (slice_index_or octets 2 0) ≡ false
+      (n at : ℕ) → mm_in octets ≡ Err (refusals.Mandatory n at) → is_permitted_type (type_of octets) ≡ false
       → DoesNothing s now held (Delivered octets)
   pub ignored : (at : ℕ) → mm_in octets ≡ Err (refusals.Ignored at) → DoesNothing s now held (Delivered octets)
 
@@ -180,3 +202,16 @@ AreOneAtMost connected (first ∷ second ∷ messages) = ⊥
 abbrev pub SendsOneAtMost : MmState → Result Stepped StepRefusal → Type 0
 SendsOneAtMost s (Ok new) = AreOneAtMost s.common.connected (sent new.outs)
 SendsOneAtMost s (Err refusal) = Unit {0}
+
+-- a message that goes out has 4,096 octets at most, and so each that a step sends (clause 9.1.1)
+abbrev pub Fits : UeOut → Type 0
+Fits (Send fresh octets pass) = length octets ≤ 4096
+Fits _ = Unit {0}
+
+abbrev pub AllFit : List UeOut → Type 0
+AllFit [] = Unit {0}
+AllFit (out ∷ outs) = Fits out × AllFit outs
+
+abbrev pub MessagesFit : Result Stepped StepRefusal → Type 0
+MessagesFit (Ok new) = AllFit new.outs
+MessagesFit (Err refusal) = Unit {0}

@@ -3,6 +3,7 @@ pub mod Checks
 pub mod Commands
 pub mod Common
 pub mod Config
+pub mod ConfigurationUpdate
 pub mod Connection
 pub mod Delivery
 pub mod Deregistration

@@ -14,7 +14,7 @@ use Rattle.mm_messages.specs.declared.registration.RegistrationType.{Registratio
 use Rattle.mm_messages.specs.declared.registration.RegistrationType.TheVariants.{Initial, Mobility, Periodic}
 use Rattle.ue_mm.specs.Config.{HandsetValues}
 use Rattle.ue_mm.specs.Connection.{connected, deregistered, erased, idle}
-use Rattle.ue_mm.specs.Identification.{identity_of, ksi_of}
+use Rattle.ue_mm.specs.Identification.{identity_of, ksi_of, renamed}
 use Rattle.ue_mm.specs.State.{open_registration}
 use Rattle.ue_mm.specs.Work.{answer, request, start, stop, tell}
 use Rattle.ue_mm.specs.declared.outs.UeOut.TheVariants.{Keep}
@@ -57,7 +57,7 @@ register kind w = registering (began kind w) w
 -- REGISTRATION ACCEPT: a 5G-GUTI in it is taken and its taking confirmed; in a registration the procedure ends, and where the
 -- network tells sessions, all others are no more.
 abbrev pub named : Option Guti → Work → Work
-named guti w = per guti w (λ (g : Guti). answer mm.RegistrationComplete (record w { common = record w.common { guti = Some g } }))
+named guti w = per guti w (λ (g : Guti). answer mm.RegistrationComplete (renamed g w))
 
 abbrev pub kept : Option (List Bool) → Work → Work
 kept sessions w = per sessions w (λ (held : List Bool). tell (Keep held) w)

@@ -1,6 +1,7 @@
 -- Security mode control (TS 24.501 clause 5.4.2, TS 33.501 clause 6.7.2).
 use Rattle.std.specs.Prelude.{ℕ, Bool, true, false, ◌==◌, ◌&&◌, ◌||◌, List, Option, Some, None, option_map}
 use Rattle.std.specs.Str.{bytes_eq}
+use Rattle.nas_base.specs.declared.count.Dir.TheVariants.{Down}
 use Rattle.nas_base.specs.Branches.{per, when◌then◌else◌}
 use Rattle.nas_base.specs.declared.mm_cause.TheConstants as cause
 use Rattle.key_chain.specs.Keys.{nas_keys}
@@ -13,7 +14,8 @@ use Rattle.nas_timers.specs.declared.timer_id.TimerId.TheVariants.{T3516}
 use Rattle.mm_messages.specs.Messages.{spelling}
 use Rattle.mm_messages.specs.declared.message.Mm.TheVariants as mm
 use Rattle.mm_messages.specs.declared.security_mode.SecurityModeCommand.{SecurityModeCommand}
-use Rattle.ue_mm.specs.Checks.{Opened, counted, noted, opened, with_count}
+use Rattle.mm_entity.specs.Opening.{Opened, opened, with_count}
+use Rattle.ue_mm.specs.Checks.{counted, noted}
 use Rattle.ue_mm.specs.Config.{HandsetValues}
 use Rattle.ue_mm.specs.Registration.{registration_request, told_sessions}
 use Rattle.ue_mm.specs.State.{is_deregistering, open_registration}
@@ -74,7 +76,7 @@ command_passed command context w =
 
 abbrev pub command_under_pending : SecurityModeCommand → SecurityContext → List ℕ → Work → Work
 command_under_pending command context octets w =
-    per (opened context octets) w (λ (o : Opened). command_passed command (with_count o.count context) (noted context o.count w))
+    per (opened context Down octets) w (λ (o : Opened). command_passed command (with_count context Down o.count) (noted context o.count w))
 
 -- A command that passed under the current context is taken as sent again, and its answer as lost. Nothing of it is compared again.
 abbrev pub command_repeated : SecurityModeCommand → Work → Work
@@ -82,7 +84,7 @@ command_repeated command w = when is_deregistering w.phase then w else command_c
 
 abbrev pub command_under_current : SecurityModeCommand → SecurityContext → List ℕ → Work → Work
 command_under_current command context octets w =
-    per (opened context octets) w (λ (o : Opened). command_repeated command (counted context o.count w))
+    per (opened context Down octets) w (λ (o : Opened). command_repeated command (counted context o.count w))
 
 -- the ngKSI picks the pending key, which no command takes while the handset deregisters, or the current context
 abbrev pub picked_pending : ℕ → Work → Option Pending

@@ -1,14 +1,15 @@
 -- One step of a handset's 5GMM: what comes in, by its row, and what goes out.
 use Rattle.std.specs.Prelude.{◌≡◌, ℕ, Bool, List, [], Result, Ok, Err}
+use Rattle.nas_base.specs.Outcomes.{RefusesAs}
 use Rattle.ue_mm.specs.Commands.{commanded}
 use Rattle.ue_mm.specs.Delivery.{delivered}
 use Rattle.ue_mm.specs.Events.{dropped, expired, restarted}
 use Rattle.ue_mm.specs.Framing.{framed_all}
 use Rattle.ue_mm.specs.declared.framing.Framed.{Framed}
+use Rattle.ue_mm.specs.Outcome.{wants_memory}
 use Rattle.ue_mm.specs.State.{MmState, state_of}
 use Rattle.ue_mm.specs.Transport.{carried}
 use Rattle.ue_mm.specs.declared.inputs.StepRefusal.{StepRefusal}
-use Rattle.ue_mm.specs.declared.inputs.StepRefusal.TheVariants.{WrongState, Spent, Memory}
 use Rattle.ue_mm.specs.declared.inputs.UeInput.{UeInput}
 use Rattle.ue_mm.specs.declared.inputs.UeInput.TheVariants.{Command, Delivered, Expired, Dropped, Restart, Carry}
 use Rattle.ue_mm.specs.declared.outs.UeOut.{UeOut}
@@ -52,13 +53,9 @@ step_of s now held input = finished (worked input (started s now held))
 -- what a step answered: the new state and what goes out; or the state as it was, with the refusal
 abbrev pub Steps : UeMm → Result (UeMm × List UeOut) (UeMm × StepRefusal) → Result Stepped StepRefusal → Type 0
 Steps old (Ok (new, outs)) step = step ≡ Ok (record { state = state_of new; outs = outs })
-Steps old (Err (new, Memory)) step = new ≡ old
-Steps old (Err (new, WrongState word)) step = (new ≡ old) × (step ≡ Err (WrongState word))
-Steps old (Err (new, Spent next)) step = (new ≡ old) × (step ≡ Err (Spent next))
+Steps old (Err (new, refusal)) step = (new ≡ old) × RefusesAs wants_memory refusal step
 
 -- the same for a state that its owner keeps
 abbrev pub Follows : Result (UeMm × List UeOut) StepRefusal → Result Stepped StepRefusal → Type 0
 Follows (Ok (new, outs)) step = step ≡ Ok (record { state = state_of new; outs = outs })
-Follows (Err Memory) step = Unit {0}
-Follows (Err (WrongState word)) step = step ≡ Err (WrongState word)
-Follows (Err (Spent next)) step = step ≡ Err (Spent next)
+Follows (Err refusal) step = RefusesAs wants_memory refusal step

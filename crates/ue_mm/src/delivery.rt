@@ -1,25 +1,19 @@
 //! What a handset makes of octets that reach it.
-ghost use Rattle.std.specs.Prelude.{◌≡◌, drop, slice_index_or, Ok, OnOk};
+ghost use Rattle.std.specs.Prelude.{◌≡◌, Ok, OnOk};
 ghost use Rattle.ue_mm.specs.Delivery.{action, by_table, command_inside, command_of, delivered, is_permitted_type, is_plain_allowed, may_reject, new_context, passed, plain, plain_message, protected, taken, frame_under_current};
 
-use crate::checks::open;
 use crate::work::Work;
 use collision_rules::{Action, collide_mm, permitted_ue};
+use mm_entity::{FIVE_GMM_STATUS, header_type, inside, is_too_long, message_type, open};
 use mm_messages::{Mm, MmRefusal, decode_mm, kind_of};
 use nas_base::mm_cause::{
     INVALID_MANDATORY_INFORMATION, MESSAGE_TYPE_NON_EXISTENT_OR_NOT_IMPLEMENTED,
     MESSAGE_TYPE_NOT_COMPATIBLE_WITH_THE_PROTOCOL_STATE,
 };
-use nas_base::{Memory, MmKind, Writer};
+use nas_base::{Dir, Memory, MmKind, Writer};
 use nas_layout::Half;
 use nas_security::Context;
 use std::alloc::Global;
-
-// Octets of a message at most, of a frame as of a plain one.
-const LONGEST: usize = 4096;
-
-// The message type of 5GMM STATUS, which is never answered (TS 24.501 clause 7.5.1).
-const FIVE_GMM_STATUS: u8 = 0x64;
 
 // Type of identity SUCI (TS 24.501 clause 9.11.3.3).
 const SUCI: Half = Half(1);
@@ -54,26 +48,16 @@ fn is_permitted_type(code: u8) -> bool
     }
 }
 
-// An octet, 0 where there is none.
-fn octet_at(octets: &[u8], index: usize) -> u8
-    ensures { result ≡ slice_index_or octets.now index 0 }
-{
-    match octets.get(index) {
-        Some(octet) => *octet,
-        None => 0,
-    }
-}
-
 impl Work {
     /// Octets reached the handset.
     #[tactic(auto, unfolding(crate::specs::Delivery::delivered, nas_base::specs::Branches::chosen))]
     pub fn delivered(&mut self, alloc: Global, octets: &[u8]) -> Result<(), Memory>
         ensures { OnOk result (self.new ≡ delivered octets.now self.old) }
     {
-        if !self.common.connected || octets.len() > LONGEST {
+        if !self.common.connected || is_too_long(octets) {
             return Ok(());
         }
-        match octet_at(octets, 1) % 16 {
+        match header_type(octets) {
             0 => self.plain(alloc, octets),
             3 => self.new_context(alloc, octets),
             _ => self.protected(alloc, octets),
@@ -95,7 +79,7 @@ impl Work {
                 MESSAGE_TYPE_NON_EXISTENT_OR_NOT_IMPLEMENTED,
             ),
             Err(MmRefusal::Mandatory { part: _, at: _ }) => {
-                if is_permitted_type(octet_at(octets, 2)) {
+                if is_permitted_type(message_type(octets)) {
                     return self.status(INVALID_MANDATORY_INFORMATION);
                 }
                 Ok(())
@@ -164,7 +148,7 @@ impl Work {
         ensures { OnOk result (self.new ≡ frame_under_current context.now octets.now self.old) }
     {
         let mut out = Writer::new();
-        let Some(count) = open(context, octets, &mut out) else {
+        let Some(count) = open(context, Dir::Down, octets, &mut out) else {
             return Ok(());
         };
         self.count(context, count)?;
@@ -183,7 +167,7 @@ impl Work {
                 MESSAGE_TYPE_NON_EXISTENT_OR_NOT_IMPLEMENTED,
             ),
             Err(MmRefusal::Mandatory { part: _, at: _ }) => {
-                if octet_at(octets, 2) == FIVE_GMM_STATUS {
+                if message_type(octets) == FIVE_GMM_STATUS {
                     return Ok(());
                 }
                 self.status(INVALID_MANDATORY_INFORMATION)
@@ -219,17 +203,8 @@ impl Work {
             Mm::DeregistrationRequestUeTerminated(_) => self.deregistration_requested(),
             Mm::DeregistrationAcceptUeOriginating => self.deregister(),
             Mm::DlNasTransport(transport) => self.transported(alloc, transport),
+            Mm::ConfigurationUpdateCommand(command) => self.configuration_updated(command),
             _ => Ok(()),
         }
-    }
-}
-
-// What stands behind the head of a frame.
-fn inside(octets: &[u8]) -> &[u8]
-    ensures { result.now ≡ drop 7 octets.now }
-{
-    match octets.get(7..) {
-        Some(inside) => inside,
-        None => &[],
     }
 }

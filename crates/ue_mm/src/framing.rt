@@ -1,19 +1,17 @@
 //! How what is said becomes octets: spelled, and protected under the current context.
 ghost use Rattle.std.specs.Prelude.{◌≡◌, ◌≤◌, [], OnOk, length};
 ghost use Rattle.mm_messages.specs.Messages.{spelling};
-ghost use Rattle.ue_mm.specs.Framing.{IsSpelled, framed, framed_all, framed_out, framed_plain, framed_protected};
+ghost use Rattle.ue_mm.specs.Framing.{framed, framed_all, framed_out, framed_plain, framed_protected};
 ghost use Rattle.ue_mm.specs.declared.acts.Act.TheVariants.{Say};
 ghost use Rattle.ue_mm.specs.declared.outs.UeOut.TheVariants.{Send};
 
 use crate::acts::{Act, Acts, Protection};
 use crate::{UeOut, UeOuts};
-use mm_messages::{Mm, encode_mm};
+use mm_entity::{frame_under, spelled};
+use mm_messages::Mm;
 use nas_base::{Dir, Memory, Octets, Supi, Writer};
-use nas_security::{Context, Pass, protect};
+use nas_security::{Context, Pass};
 use std::alloc::Global;
-
-// Octets of a message at most whose frame has 4,096.
-const LONGEST: usize = 4089;
 
 /// The current context, whose counts the messages take, and what was sent and told so far.
 #[derive(Drop)]
@@ -96,21 +94,11 @@ impl Framed {
         let Some(mut context) = self.current else {
             return Ok(());
         };
-        let mut plain = Writer::new();
-        if !spelled(message, &mut plain) {
-            return Ok(());
-        }
         let mut out = Writer::new();
-        let challenge = context.challenge;
-        let Ok(count) = protect(&mut context, Dir::Up, header, plain.octets(), &mut out) else {
+        let Some(pass) = frame_under(&mut context, Dir::Up, header, message, supi, &mut out) else {
             return Ok(());
         };
         self.current = Some(context);
-        let pass = Pass {
-            supi: supi.copy(),
-            challenge,
-            count,
-        };
         self.send(alloc, fresh, out.octets(), Some(pass))
     }
 
@@ -135,12 +123,4 @@ impl Framed {
         };
         self.outs.push(alloc, send)
     }
-}
-
-// Spells a message whose frame doesn't have more than 4,096 octets.
-fn spelled(message: &Mm, out: &mut Writer) -> bool
-    requires { out.old ≡ [] }
-    ensures { IsSpelled result out.new (spelling message.now) }
-{
-    encode_mm(message, out).is_ok() && out.octets().len() <= LONGEST
 }

@@ -2,7 +2,7 @@
 ghost use Rattle.std.specs.Prelude.{◌≡◌, ◌≤◌, OnOk, length};
 ghost use Rattle.nas_elements.specs.Identity.{identity_octets};
 ghost use Rattle.nas_elements.specs.Suci.{suci_octets};
-ghost use Rattle.ue_mm.specs.Identification.{identity_of, identity_requested, ksi_of, short_identity_of, suci_of};
+ghost use Rattle.ue_mm.specs.Identification.{identity_of, identity_requested, ksi_of, renamed, short_identity_of, suci_of};
 
 use crate::HandsetConfig;
 use crate::work::Work;
@@ -66,6 +66,13 @@ pub fn ksi_of(current: &Option<Context>) -> Ksi
 }
 
 impl Work {
+    /// The network gives the handset another 5G-GUTI.
+    pub fn rename(&mut self, guti: &Guti)
+        ensures { self.new ≡ renamed guti.now self.old }
+    {
+        self.common.guti = Some(guti.copy());
+    }
+
     /// IDENTITY REQUEST.
     #[tactic(auto, unfolding(crate::specs::Identification::identity_requested, nas_base::specs::Branches::chosen))]
     pub fn identity_requested(&mut self, request: &IdentityRequest) -> Result<(), Memory>

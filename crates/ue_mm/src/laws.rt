@@ -1,21 +1,22 @@
 //! What holds of every state and of all that comes in. These functions do nothing: their contracts are the laws.
-ghost use Rattle.ue_mm.specs.Laws.{IsOpenedWherePassing, PlainDoByKind, PlainSecuresNothing, SendsOneAtMost, TimersHaveOwners, UncheckedDoNothing};
+ghost use Rattle.ue_mm.specs.Laws.{MessagesFit, OpensWherePassing, PlainDoByKind, PlainSecuresNothing, SendsOneAtMost, TimersHaveOwners, UncheckedDoNothing};
 ghost use Rattle.ue_mm.specs.State.{state_of};
 ghost use Rattle.ue_mm.specs.Step.{step_of};
+ghost use Rattle.ue_mm.specs.declared.inputs.UeInput.TheVariants.{Delivered};
 
 use crate::{UeInput, UeMm};
 use nas_base::Moment;
 use nas_elements::Status;
-use nas_security::Context;
 
-/// What a handset opens under a context is what passes under it (`nas_security`): octets are opened to the count and the message as
-/// whose frame they pass, and to nothing exactly where no message passes as them.
-pub fn opened_where_passing(context: &Context, octets: &[u8])
-    ensures { IsOpenedWherePassing context.now octets.now }
+/// A message that a handset takes as passed, passes (`nas_security`): the current context, or one that the pending key makes with
+/// algorithms that a handset supports, has the challenge that is told, and under that the octets are the frame of a message at the
+/// count that is told (TS 24.501 clause 4.4.4.2).
+pub fn opened_where_passing(state: &UeMm, now: Moment, held: &Status, octets: &[u8])
+    ensures { OpensWherePassing (state_of state.now) octets.now (step_of (state_of state.now) now held.now (Delivered octets.now)) }
 {}
 
-/// Octets that pass no check, neither of the current context nor of one that the pending key makes, change nothing and are answered by
-/// nothing, except plain ones on a connection on which nothing was exchanged securely (TS 24.501 clauses 4.4.4.1 and 4.4.4.2).
+/// Octets change nothing and are answered by nothing in a step that tells no pass, which is each whose octets pass no check, except
+/// plain ones on a connection on which nothing was exchanged securely (TS 24.501 clauses 4.4.4.1 and 4.4.4.2).
 pub fn unchecked_octets_change_nothing(state: &UeMm, now: Moment, held: &Status, octets: &[u8])
     ensures { UncheckedDoNothing (state_of state.now) now held.now octets.now }
 {}
@@ -42,4 +43,9 @@ pub fn timers_have_owners(state: &UeMm, now: Moment, held: &Status, input: &UeIn
 /// A step sends one message at most, and one that is the first of its connection only where there was no connection.
 pub fn one_message_at_most(state: &UeMm, now: Moment, held: &Status, input: &UeInput)
     ensures { SendsOneAtMost (state_of state.now) (step_of (state_of state.now) now held.now input.now) }
+{}
+
+/// Every message that a step sends has at most 4,096 octets; one whose frame would have more isn't sent (TS 24.501 clause 9.1.1).
+pub fn messages_have_4096_octets_at_most(state: &UeMm, now: Moment, held: &Status, input: &UeInput)
+    ensures { MessagesFit (step_of (state_of state.now) now held.now input.now) }
 {}

@@ -8,6 +8,7 @@ mod checks;
 mod commands;
 mod common;
 mod config;
+mod configuration_update;
 mod connection;
 mod delivery;
 mod deregistration;
@@ -32,8 +33,9 @@ pub use crate::common::{Common, Pending, Stored};
 pub use crate::config::HandsetConfig;
 pub use crate::inputs::{MmCommand, StepRefusal, UeInput};
 pub use crate::laws::{
-    one_message_at_most, opened_where_passing, plain_octets_by_kind, plain_octets_secure_nothing,
-    timers_have_owners, unchecked_octets_change_nothing,
+    messages_have_4096_octets_at_most, one_message_at_most, opened_where_passing,
+    plain_octets_by_kind, plain_octets_secure_nothing, timers_have_owners,
+    unchecked_octets_change_nothing,
 };
 pub use crate::outs::{UeOut, UeOuts};
 pub use crate::procedures::{Deregistration, Phase, Registration, Service};

@@ -92,7 +92,7 @@ impl Work {
     {
         match guti {
             Some(guti) => {
-                self.common.guti = Some(guti.copy());
+                self.rename(guti);
                 self.answer(Mm::RegistrationComplete)
             }
             None => Ok(()),

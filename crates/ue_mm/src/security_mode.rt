@@ -3,15 +3,15 @@ ghost use Rattle.std.specs.Prelude.{◌≡◌, true, IfOk, OnOk};
 ghost use Rattle.ue_mm.specs.SecurityMode.{are_supported, command_passed, command_completed, is_acceptable, is_wanted, made, picked_current, picked_pending, security_mode_commanded, command_picked, taken_into_use, command_under_current, command_under_pending, wanted_request, whole_request};
 
 use crate::acts::Protection;
-use crate::checks::{open, with_count};
 use crate::procedures::{Phase, Registration};
 use crate::registration::{registration_request, told_sessions};
 use crate::work::Work;
 use crate::{HandsetConfig, Pending, UeOut};
 use key_chain::nas_keys;
+use mm_entity::{counted, open};
 use mm_messages::{Mm, SecurityModeCommand, SecurityModeComplete, SecurityModeReject, encode_mm};
 use nas_base::mm_cause::UE_SECURITY_CAPABILITIES_MISMATCH;
-use nas_base::{Ksi, Memory, Octets, Writer};
+use nas_base::{Dir, Ksi, Memory, Octets, Writer};
 use nas_elements::{Algs, Asi, Status};
 use nas_security::Context;
 use nas_timers::TimerId;
@@ -156,11 +156,11 @@ impl Work {
         ensures { OnOk result (self.new ≡ command_under_pending command.now context.now octets.now self.old) }
     {
         let mut out = Writer::new();
-        let Some(count) = open(context, octets, &mut out) else {
+        let Some(count) = open(context, Dir::Down, octets, &mut out) else {
             return Ok(());
         };
         self.note(context, count)?;
-        self.command_passed(alloc, command, with_count(count, *context))
+        self.command_passed(alloc, command, counted(*context, Dir::Down, count))
     }
 
     // A command that passed under a pending key.
@@ -213,7 +213,7 @@ impl Work {
         ensures { OnOk result (self.new ≡ command_under_current command.now context.now octets.now self.old) }
     {
         let mut out = Writer::new();
-        let Some(count) = open(context, octets, &mut out) else {
+        let Some(count) = open(context, Dir::Down, octets, &mut out) else {
             return Ok(());
         };
         self.count(context, count)?;

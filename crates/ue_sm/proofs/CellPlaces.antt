@@ -18,5 +18,6 @@ put_put psi a b s = ap (λ cells. record s { cells = cells }) (set_set s.cells (
 inactive_step : (n : ℕ) → n < 15 → inactive (15 - n) ≡ Inactive ∷ inactive (15 - (n + 1))
 inactive_step n more = let e : 15 - n ≡ suc (15 - (n + 1)) = omega arith in ap inactive e
 
-pub inactive_more : (cells goal : List Cell) (n : ℕ) → n < 15 → cells ++ inactive (15 - n) ≡ goal → (cells ++ Inactive ∷ []) ++ inactive (15 - (n + 1)) ≡ goal
+pub inactive_more : (cells goal : List Cell) (n : ℕ) → n < 15 → cells ++ inactive (15 - n) ≡ goal
+    → (cells ++ Inactive ∷ []) ++ inactive (15 - (n + 1)) ≡ goal
 inactive_more cells goal n more told = grind (arith, common_steps, inactive_step n more, told)

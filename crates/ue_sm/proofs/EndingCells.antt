@@ -13,7 +13,8 @@ use Rattle.ue_sm.specs.declared.cells.Held.{Held}
 
 unless_unknown_ends : (n : ℕ) (held : Held) → transaction_of (active_unless_unknown n held) ≡ None
 unless_unknown_ends n held =
-    when_holds (λ (c : Cell). transaction_of c ≡ None) (n == cause.INVALID_PDU_SESSION_IDENTITY) Inactive (Active held) (λ _. refl) (λ _. refl)
+    when_holds (λ (c : Cell). transaction_of c ≡ None) (n == cause.INVALID_PDU_SESSION_IDENTITY) Inactive (Active held)
+    (λ _. refl) (λ _. refl)
 
 pub rejected_ends : (n : ℕ) (c : Cell) → transaction_of (rejected n c) ≡ None
 rejected_ends n Inactive = refl

@@ -12,25 +12,30 @@ use Rattle.ue_sm.specs.NetworkCommands.{message_of}
 use Rattle.ue_sm.specs.declared.cells.Answer.{Answer}
 use Rattle.ue_sm.specs.declared.cells.Answer.TheVariants.{Complete, Refused, Mismatch}
 
-pub status_fits : (psi pti n : ℕ) → length (spelling (record { psi = psi; pti = pti; body = sm.FiveGsmStatus (record { cause = n }) })) ≤ 4096
+pub status_fits : (psi pti n : ℕ)
+    → length (spelling (record { psi = psi; pti = pti; body = sm.FiveGsmStatus (record { cause = n }) })) ≤ 4096
 unfolding five_gsm_status
 status_fits psi pti n = omega arith
 
-pub answer_fits : (psi pti : ℕ) (answer : Answer) → length (spelling (record { psi = psi; pti = pti; body = message_of answer })) ≤ 4096
+pub answer_fits : (psi pti : ℕ) (answer : Answer)
+    → length (spelling (record { psi = psi; pti = pti; body = message_of answer })) ≤ 4096
 unfolding five_gsm_status pdu_session_modification_command_reject
 answer_fits psi pti Complete = omega arith
 answer_fits psi pti (Refused n) = omega arith
 answer_fits psi pti Mismatch = omega arith
 
-pub release_complete_fits : (psi pti : ℕ) → length (spelling (record { psi = psi; pti = pti; body = sm.PduSessionReleaseComplete (record { cause = None }) })) ≤ 4096
+pub release_complete_fits : (psi pti : ℕ)
+    → length (spelling (record { psi = psi; pti = pti; body = sm.PduSessionReleaseComplete (record { cause = None }) })) ≤ 4096
 unfolding pdu_session_release_complete
 release_complete_fits psi pti = omega arith
 
-pub release_request_fits : (psi pti n : ℕ) → length (spelling (record { psi = psi; pti = pti; body = sm.PduSessionReleaseRequest (record { cause = Some n }) })) ≤ 4096
+pub release_request_fits : (psi pti n : ℕ)
+    → length (spelling (record { psi = psi; pti = pti; body = sm.PduSessionReleaseRequest (record { cause = Some n }) })) ≤ 4096
 unfolding pdu_session_release_request
 release_request_fits psi pti n = omega arith
 
-pub establishment_request_fits : (psi pti kind : ℕ) → length (spelling (record { psi = psi; pti = pti; body = establishment_request kind })) ≤ 4096
+pub establishment_request_fits : (psi pti kind : ℕ)
+    → length (spelling (record { psi = psi; pti = pti; body = establishment_request kind })) ≤ 4096
 unfolding pdu_session_establishment_request
 establishment_request_fits psi pti kind = omega arith
 

@@ -46,7 +46,8 @@ abandoned_follows (InactivePending held t) = none_follows (InactivePending held 
 
 pub resent_follows : (c : Cell) → Follows c (resent c)
 resent_follows Inactive = none_follows Inactive Inactive refl
-resent_follows (ActivePending t) = one_follows (ActivePending t) (ActivePending (sent_again t)) t (sent_again t) refl refl refl
+resent_follows (ActivePending t) =
+    one_follows (ActivePending t) (ActivePending (sent_again t)) t (sent_again t) refl refl refl
 resent_follows (Active held) = none_follows (Active held) (Active held) refl
 resent_follows (ModificationPending held t) =
     one_follows (ModificationPending held t) (ModificationPending held (sent_again t)) t (sent_again t) refl refl refl
@@ -77,12 +78,15 @@ pub completed_follows : (a : Answered) (rules : List QosRule) (c : Cell) → Fol
 completed_follows a rules Inactive = same_follows Inactive
 completed_follows a rules (ActivePending t) = none_follows (ActivePending t) Inactive refl
 completed_follows a rules (Active held) = none_follows (Active held) (Active (modified a rules held)) refl
-completed_follows a rules (ModificationPending held t) = none_follows (ModificationPending held t) (Active (modified a rules held)) refl
-completed_follows a rules (InactivePending held t) = none_follows (InactivePending held t) (Active (modified a rules held)) refl
+completed_follows a rules (ModificationPending held t) =
+    none_follows (ModificationPending held t) (Active (modified a rules held)) refl
+completed_follows a rules (InactivePending held t) =
+    none_follows (InactivePending held t) (Active (modified a rules held)) refl
 
 pub refused_follows : (a : Answered) (c : Cell) → Follows c (refused a c)
 refused_follows a Inactive = same_follows Inactive
 refused_follows a (ActivePending t) = none_follows (ActivePending t) Inactive refl
 refused_follows a (Active held) = none_follows (Active held) (Active (with_answer a held)) refl
-refused_follows a (ModificationPending held t) = none_follows (ModificationPending held t) (Active (with_answer a held)) refl
+refused_follows a (ModificationPending held t) =
+    none_follows (ModificationPending held t) (Active (with_answer a held)) refl
 refused_follows a (InactivePending held t) = none_follows (InactivePending held t) (Active (with_answer a held)) refl

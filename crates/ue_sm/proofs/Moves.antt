@@ -38,7 +38,8 @@ use Rattle.ue_sm.specs.declared.cells.Cell.TheVariants.{Inactive, Active}
 use Rattle.ue_sm.specs.declared.outs.SmOut.TheVariants.{Carry}
 use Rattle.ue_sm.specs.declared.work.Work.{Work}
 
--- A message of the session goes out; its transaction ends, with its timer; or it becomes another whose transaction is the same.
+-- A message of the session goes out; its transaction ends, with its timer; or it
+-- becomes another whose transaction is the same.
 pub data Moves (n : ℕ) (w : Work) : Work → Type 0 where
   unmoved : Moves n w w
   carries : {v : Work} (dnn : Option (List ℕ)) (frame : List ℕ) → Moves n w v → Moves n w (tell (Carry n dnn frame) v)
@@ -58,14 +59,16 @@ left_inactive : (n : ℕ) (w : Work) → Moves n w (ended n Inactive w)
 left_inactive n w = ended_with n Inactive w (none_follows (cell n w) Inactive refl) refl
 
 -- establishment
-accepted_moves : (rules : Result (List QosRule) ℕ) (n pti : ℕ) (m : PduSessionEstablishmentAccept) (w : Work) → Moves n w (accepted_with rules n pti m w)
+accepted_moves : (rules : Result (List QosRule) ℕ) (n pti : ℕ) (m : PduSessionEstablishmentAccept) (w : Work)
+    → Moves n w (accepted_with rules n pti m w)
 accepted_moves (Ok rules) n pti m w =
     let new : Cell = Active (record { session = accepted_session m rules; answered = None }) in
     ended_with n new w (none_follows (cell n w) new refl) refl
 accepted_moves (Err code) n pti m w = told_status n pti code w (ended n Inactive w) (left_inactive n w)
 
 -- commands of the network
-applied_moves : (rules : Result (List QosRule) ℕ) (n pti : ℕ) (command : PduSessionModificationCommand) (w : Work) → Moves n w (applied_to rules n pti command w)
+applied_moves : (rules : Result (List QosRule) ℕ) (n pti : ℕ) (command : PduSessionModificationCommand) (w : Work)
+    → Moves n w (applied_to rules n pti command w)
 applied_moves (Ok rules) n pti command w =
     let new : Cell = completed (last_of pti command Complete) rules (cell n w) in
     said n pti (message_of Complete) w (ended n new w)
@@ -75,7 +78,8 @@ applied_moves (Err code) n pti command w =
     said n pti (message_of (Refused code)) w (ended n new w)
     (ended_with n new w (refused_follows (last_of pti command (Refused code)) (cell n w)) (refused_ends (last_of pti command (Refused code)) (cell n w)))
 
-commanded_moves : (n pti : ℕ) (command : PduSessionModificationCommand) (w : Work) → Moves n w (modification_commanded n pti command w)
+commanded_moves : (n pti : ℕ) (command : PduSessionModificationCommand) (w : Work)
+    → Moves n w (modification_commanded n pti command w)
 unfolding modification_commanded
 commanded_moves n pti command w =
     per_holds (λ (x : Work). Moves n w x) (session_of (cell n w)) w
@@ -94,16 +98,21 @@ mismatched_moves n pti message w =
 
 released_moves : (n pti : ℕ) (w : Work) → Moves n w (release_commanded n pti w)
 unfolding release_commanded
-released_moves n pti w = said n pti (sm.PduSessionReleaseComplete (record { cause = None })) w (ended n Inactive w) (left_inactive n w)
+released_moves n pti w =
+    said n pti (sm.PduSessionReleaseComplete (record { cause = None })) w (ended n Inactive w) (left_inactive n w)
 
 taken_moves : (n pti : ℕ) (message : Sm) (w : Work) → Moves n w (taken n pti message w)
 unfolding taken establishment_accepted establishment_rejected modification_rejected release_rejected
 taken_moves n pti (sm.PduSessionEstablishmentAccept m) w = accepted_moves (ruled m.rules []) n pti m w
 taken_moves n pti (sm.PduSessionEstablishmentReject m) w = left_inactive n w
 taken_moves n pti (sm.PduSessionModificationCommand m) w = commanded_moves n pti m w
-taken_moves n pti (sm.PduSessionModificationReject m) w = ended_with n (rejected m.cause (cell n w)) w (rejected_follows m.cause (cell n w)) (rejected_ends m.cause (cell n w))
+taken_moves n pti (sm.PduSessionModificationReject m) w =
+    ended_with n (rejected m.cause (cell n w)) w (rejected_follows m.cause (cell n w))
+    (rejected_ends m.cause (cell n w))
 taken_moves n pti (sm.PduSessionReleaseCommand m) w = released_moves n pti w
-taken_moves n pti (sm.PduSessionReleaseReject m) w = ended_with n (rejected m.cause (cell n w)) w (rejected_follows m.cause (cell n w)) (rejected_ends m.cause (cell n w))
+taken_moves n pti (sm.PduSessionReleaseReject m) w =
+    ended_with n (rejected m.cause (cell n w)) w (rejected_follows m.cause (cell n w))
+    (rejected_ends m.cause (cell n w))
 taken_moves n pti (sm.PduSessionEstablishmentRequest m) w = unmoved
 taken_moves n pti (sm.PduSessionModificationRequest m) w = unmoved
 taken_moves n pti sm.PduSessionModificationComplete w = unmoved
@@ -115,7 +124,8 @@ taken_moves n pti (sm.FiveGsmStatus m) w = unmoved
 by_action_moves : (a : Action) (n pti : ℕ) (message : Sm) (w : Work) → Moves n w (by_action a n pti message w)
 by_action_moves Take n pti message w = taken_moves n pti message w
 by_action_moves Discard n pti message w = unmoved
-by_action_moves Status98 n pti message w = told_status n pti cause.MESSAGE_TYPE_NOT_COMPATIBLE_WITH_THE_PROTOCOL_STATE w w unmoved
+by_action_moves Status98 n pti message w =
+    told_status n pti cause.MESSAGE_TYPE_NOT_COMPATIBLE_WITH_THE_PROTOCOL_STATE w w unmoved
 by_action_moves Status43 n pti message w = told_status n pti cause.INVALID_PDU_SESSION_IDENTITY w w unmoved
 by_action_moves Status47 n pti message w = mismatched_moves n pti message w
 
@@ -124,7 +134,8 @@ unfolding received
 received_moves n pti message w =
     per_holds (λ (x : Work). Moves n w x) (same_answer pti message (cell n w))
     (by_action (action pti message (cell n w)) n pti message w) (λ (answer : Answer). answer_with n pti answer w)
-    (λ _. by_action_moves (action pti message (cell n w)) n pti message w) (λ answer _. said n pti (message_of answer) w w unmoved)
+    (λ _. by_action_moves (action pti message (cell n w)) n pti message w)
+    (λ answer _. said n pti (message_of answer) w w unmoved)
 
 read_moves : (r : Result SmFrame SmRefusal) (n : ℕ) (octets : List ℕ) (w : Work) → Moves n w (read r n octets w)
 read_moves (Ok frame) n octets w = received_moves n frame.pti frame.body w
@@ -138,7 +149,8 @@ read_moves (Err (Mandatory part at)) n octets w =
 read_moves (Err Memory) n octets w = unmoved
 
 -- octets change the session that they name
-pub delivered_moves : (n : ℕ) (octets : List ℕ) (w : Work) → psi_from (octet_at octets 1) ≡ Some n → Moves n w (delivered octets w)
+pub delivered_moves : (n : ℕ) (octets : List ℕ) (w : Work) → psi_from (octet_at octets 1) ≡ Some n
+    → Moves n w (delivered octets w)
 unfolding delivered per
 delivered_moves n octets w names =
     subst (λ (o : Option ℕ). Moves n w (per o w (λ (psi : ℕ). read (sm_in octets) psi octets w))) (sym names)
@@ -156,7 +168,8 @@ none_moves w = record { session = 1; named = refl; moves = unmoved }
 pub delivered_moves_some : (octets : List ℕ) (w : Work) → MovesSome w (delivered octets w)
 unfolding delivered
 delivered_moves_some octets w =
-    per_holds (λ (x : Work). MovesSome w x) (psi_from (octet_at octets 1)) w (λ (psi : ℕ). read (sm_in octets) psi octets w)
+    per_holds (λ (x : Work). MovesSome w x) (psi_from (octet_at octets 1)) w
+    (λ (psi : ℕ). read (sm_in octets) psi octets w)
     (λ _. none_moves w)
     (λ psi names. record { session = psi; named = psi_named (octet_at octets 1) psi names; moves = read_moves (sm_in octets) psi octets w })
 
@@ -167,7 +180,8 @@ unforwarded_moves n pti w =
     (λ (t : OpenTransaction). when t.request.pti == pti then ended n (unanswered (cell n w)) w else w)
     (λ _. unmoved)
     (λ t _. when_holds (λ (x : Work). Moves n w x) (t.request.pti == pti) (ended n (unanswered (cell n w)) w) w
-    (λ _. ended_with n (unanswered (cell n w)) w (unanswered_follows (cell n w)) (unanswered_ends (cell n w))) (λ _. unmoved))
+    (λ _. ended_with n (unanswered (cell n w)) w (unanswered_follows (cell n w)) (unanswered_ends (cell n w)))
+    (λ _. unmoved))
 
 pub not_forwarded_moves : (octets : List ℕ) (w : Work) → MovesSome w (not_forwarded octets w)
 unfolding not_forwarded

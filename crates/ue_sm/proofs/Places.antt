@@ -15,7 +15,8 @@ got_set (x ∷ xs) (suc i) zero a d = inr refl
 got_set (x ∷ xs) (suc i) (suc j) a d = got_set xs i j a d
 
 pub placed : (psi other : ℕ) (c : Cell) (s : SmState)
-    → ((cell_of other s ≡ cell_of psi s) × (cell_of other (put_cell psi c s) ≡ c)) ⊎ (cell_of other (put_cell psi c s) ≡ cell_of other s)
+    → ((cell_of other s ≡ cell_of psi s) × (cell_of other (put_cell psi c s) ≡ c))
+    ⊎ (cell_of other (put_cell psi c s) ≡ cell_of other s)
 placed psi other c s = got_set s.cells (psi - 1) (other - 1) c Inactive
 
 got_other : {A : Type 0} (xs : List A) (i j : ℕ) (a d : A) → ¬ (j ≡ i) → get_or (set xs i a) j d ≡ get_or xs j d
@@ -25,5 +26,6 @@ got_other (x ∷ xs) zero (suc j) a d differs = refl
 got_other (x ∷ xs) (suc i) zero a d differs = refl
 got_other (x ∷ xs) (suc i) (suc j) a d differs = got_other xs i j a d (λ e. differs (ap suc e))
 
-pub placed_other : (psi other : ℕ) (c : Cell) (s : SmState) → ¬ (other - 1 ≡ psi - 1) → cell_of other (put_cell psi c s) ≡ cell_of other s
+pub placed_other : (psi other : ℕ) (c : Cell) (s : SmState) → ¬ (other - 1 ≡ psi - 1)
+    → cell_of other (put_cell psi c s) ≡ cell_of other s
 placed_other psi other c s differs = got_other s.cells (psi - 1) (other - 1) c Inactive differs

@@ -1,8 +1,10 @@
 -- What is kept where no transaction begins: the next identity stays, and what is open follows from what was.
-use Rattle.std.proofs.Common.{◌≡◌, ◌⊎◌, ◌∙◌, ◌+◌, inl, inr, ap, refl, subst, sym, arith, ℕ, zero, suc, Bool, List, Some, None, Result, Ok, Err}
+use Rattle.std.proofs.Common.{◌≡◌, ◌≤◌, ◌⊎◌, ◌∙◌, ◌+◌, ◌-◌, inl, inr, ap, refl, subst, sym, arith, ℕ, zero, suc, Bool, true, false, List, Some, None, Result, Ok, Err}
+use Rattle.std.proofs.lemmas.Bool.Decides.{nat_tests}
 use Rattle.std.specs.Prelude.{◌==◌, nat_lt}
 use Rattle.nas_base.proofs.Branching.{per_holds, when_holds}
 use Rattle.nas_base.specs.Branches.{per}
+use Rattle.nas_base.specs.Values.{is_psi}
 use Rattle.nas_base.specs.declared.state_words.SmWord.TheVariants as words
 use Rattle.nas_qos.specs.Applying.{all_applied}
 use Rattle.nas_qos.specs.Operations.{Operation}
@@ -11,8 +13,9 @@ use Rattle.nas_qos.specs.declared.refusals.QosFault.{QosFault}
 use Rattle.nas_timers.specs.declared.timer_id.TimerId.{TimerId}
 use Rattle.nas_timers.specs.declared.timer_id.TimerId.TheVariants.{T3510, T3516, T3517, T3521, T3522, T3550, T3555, T3560, T3580, T3581, T3582, T3591, T3592}
 use Rattle.ue_sm.proofs.Following.{Follows, abandoned_follows, none_follows, resent_follows, same_follows, unanswered_follows}
+use Rattle.ue_sm.proofs.Identities.{psi_least}
 use Rattle.ue_sm.proofs.Moves.{Moves, unmoved, carries, ends, keeps}
-use Rattle.ue_sm.proofs.Places.{placed}
+use Rattle.ue_sm.proofs.Places.{placed, placed_other}
 use Rattle.ue_sm.proofs.Stops.{stopped_keeps}
 use Rattle.ue_sm.specs.Cells.{awaiting_modification, awaiting_release, resent, transaction_of, unanswered}
 use Rattle.ue_sm.specs.Commands.{commanded, establish, modify, modify_with, release, with_identity}
@@ -57,18 +60,22 @@ stays_then a b c one two = record {
 
 -- another session in a place
 follows_at : (psi other : ℕ) (c : Cell) (s : SmState) → Follows (cell_of psi s) c
-    → ((cell_of other s ≡ cell_of psi s) × (cell_of other (put_cell psi c s) ≡ c)) ⊎ (cell_of other (put_cell psi c s) ≡ cell_of other s)
+    → ((cell_of other s ≡ cell_of psi s) × (cell_of other (put_cell psi c s) ≡ c))
+    ⊎ (cell_of other (put_cell psi c s) ≡ cell_of other s)
     → Follows (cell_of other s) (cell_of other (put_cell psi c s))
 follows_at psi other c s follows (inl (here, is)) =
     subst (λ (x : Cell). Follows (cell_of other s) x) (sym is) (subst (λ (x : Cell). Follows x c) (sym here) follows)
-follows_at psi other c s follows (inr e) = subst (λ (x : Cell). Follows (cell_of other s) x) (sym e) (same_follows (cell_of other s))
+follows_at psi other c s follows (inr e) =
+    subst (λ (x : Cell). Follows (cell_of other s) x) (sym e) (same_follows (cell_of other s))
 
 pub stays_put : (psi : ℕ) (c : Cell) (s : SmState) → Follows (cell_of psi s) c → Stays s (put_cell psi c s)
-stays_put psi c s follows = record { next = refl; follow = λ other. follows_at psi other c s follows (placed psi other c s) }
+stays_put psi c s follows =
+    record { next = refl; follow = λ other. follows_at psi other c s follows (placed psi other c s) }
 
 -- the rows of one session
 stays_ended : (n : ℕ) (c : Cell) (w : Work) → Follows (cell n w) c → Stays w.state (ended n c w).state
-stays_ended n c w follows = subst (λ (s : SmState). Stays w.state (put_cell n c s)) (sym (stopped_keeps n w)) (stays_put n c w.state follows)
+stays_ended n c w follows =
+    subst (λ (s : SmState). Stays w.state (put_cell n c s)) (sym (stopped_keeps n w)) (stays_put n c w.state follows)
 
 pub stays_moved : (n : ℕ) (w : Work) {new : Work} → Moves n w new → Stays w.state new.state
 stays_moved n w unmoved = stays_same w.state
@@ -138,18 +145,22 @@ pub stays_new : (s new : SmState) → Stays s new → HaveNewIdentities s new
 stays_new s new stays = record {
   rises = let e : new.next ≡ s.next = stays.next in omega arith;
   transactions = λ psi t some. inl (stays.follow psi t some);
+  alone = λ psi other t u _ _ _ some _. inl (stays.follow psi t some);
 }
 
 -- a transaction begins
 abbrev pub IsOpenedAs : OpenTransaction → Cell → Cell → Type 0
 IsOpenedAs new before after = (t : OpenTransaction) → transaction_of after ≡ Some t → (WasOpen before t) ⊎ (t ≡ new)
 
-opened_as : (psi other : ℕ) (c : Cell) (new t : OpenTransaction) (s : SmState) → new.request.pti ≡ s.next → cell_of other s ≡ cell_of psi s
-    → (WasOpen (cell_of psi s) t) ⊎ (t ≡ new) → WasOpen (cell_of other s) t ⊎ IsNew s (put_cell psi c (record s { next = s.next + 1 })) t
+opened_as : (psi other : ℕ) (c : Cell) (new t : OpenTransaction) (s : SmState) → new.request.pti ≡ s.next
+    → cell_of other s ≡ cell_of psi s
+    → (WasOpen (cell_of psi s) t) ⊎ (t ≡ new)
+    → WasOpen (cell_of other s) t ⊎ IsNew s (put_cell psi c (record s { next = s.next + 1 })) t
 opened_as psi other c new t s named here (inl was) = inl (subst (λ (x : Cell). WasOpen x t) (sym here) was)
 opened_as psi other c new t s named here (inr e) = inr (ap (λ (x : OpenTransaction). x.request.pti) e ∙ named, refl)
 
-opened_at : (psi other : ℕ) (c : Cell) (new : OpenTransaction) (s : SmState) → new.request.pti ≡ s.next → IsOpenedAs new (cell_of psi s) c
+opened_at : (psi other : ℕ) (c : Cell) (new : OpenTransaction) (s : SmState) → new.request.pti ≡ s.next
+    → IsOpenedAs new (cell_of psi s) c
     → ((cell_of other s ≡ cell_of psi s) × (cell_of other (put_cell psi c (record s { next = s.next + 1 })) ≡ c))
     ⊎ (cell_of other (put_cell psi c (record s { next = s.next + 1 })) ≡ cell_of other s)
     → (t : OpenTransaction) → transaction_of (cell_of other (put_cell psi c (record s { next = s.next + 1 }))) ≡ Some t
@@ -158,12 +169,40 @@ opened_at psi other c new s named opens (inl (here, is)) t some =
     opened_as psi other c new t s named here (opens t (ap transaction_of (sym is) ∙ some))
 opened_at psi other c new s named opens (inr e) t some = inl (t, ap transaction_of (sym e) ∙ some, refl)
 
-begun_new : (psi : ℕ) (id : TimerId) (c : Cell) (new : OpenTransaction) (w : Work) → new.request.pti ≡ w.state.next → IsOpenedAs new (cell psi w) c
+-- and begins in one place: of two sessions one has the transaction that it had
+is_here : (n m : ℕ) → (n == m) ≡ true → n ≡ m
+is_here n m e = grind (arith, nat_tests, e)
+
+is_elsewhere : (n m : ℕ) → (n == m) ≡ false → ¬ (n ≡ m)
+is_elsewhere n m e same = let clash : (n == m) ≡ true = grind (arith, nat_tests, same) in absurd (cc)
+
+was_open : (psi other : ℕ) (c : Cell) (t : OpenTransaction) (s : SmState) → ¬ (other - 1 ≡ psi - 1)
+    → transaction_of (cell_of other (put_cell psi c s)) ≡ Some t → WasOpen (cell_of other s) t
+was_open psi other c t s differs some = (t, ap transaction_of (sym (placed_other psi other c s differs)) ∙ some, refl)
+
+opened_alone : (at psi other : ℕ) (c : Cell) (s : SmState) (t u : OpenTransaction) → is_psi psi ≡ true
+    → is_psi other ≡ true → ¬ (other ≡ psi)
+    → transaction_of (cell_of psi (put_cell at c s)) ≡ Some t
+    → transaction_of (cell_of other (put_cell at c s)) ≡ Some u
+    → WasOpen (cell_of psi s) t ⊎ WasOpen (cell_of other s) u
+opened_alone at psi other c s t u is other_is differs first second = by_place (psi - 1 == at - 1) refl
+  where
+    by_place : (here : Bool) → (psi - 1 == at - 1) ≡ here → WasOpen (cell_of psi s) t ⊎ WasOpen (cell_of other s) u
+    by_place true e =
+        let here : psi - 1 ≡ at - 1 = is_here (psi - 1) (at - 1) e in
+        let least : 1 ≤ psi = psi_least psi is in
+        let other_least : 1 ≤ other = psi_least other other_is in
+        inr (was_open at other c u s (λ same. differs (omega arith)) second)
+    by_place false e = inl (was_open at psi c t s (is_elsewhere (psi - 1) (at - 1) e) first)
+
+begun_new : (psi : ℕ) (id : TimerId) (c : Cell) (new : OpenTransaction) (w : Work) → new.request.pti ≡ w.state.next
+    → IsOpenedAs new (cell psi w) c
     → HaveNewIdentities w.state (begun psi id c new w).state
 begun_new psi id c new w named opens = record {
   rises = omega arith;
   transactions = λ other t some.
       opened_at psi other c new w.state named opens (placed psi other c (record w.state { next = w.state.next + 1 })) t some;
+  alone = λ one other t u. opened_alone psi one other c (record w.state { next = w.state.next + 1 }) t u;
 }
 
 new_opened : (before : Cell) (new t : OpenTransaction) → Some new ≡ Some t → (WasOpen before t) ⊎ (t ≡ new)
@@ -210,7 +249,8 @@ establish_new (Active held) psi kind dnn w = refused_new w (SessionThere psi)
 establish_new (ModificationPending held t) psi kind dnn w = refused_new w (SessionThere psi)
 establish_new (InactivePending held t) psi kind dnn w = refused_new w (SessionThere psi)
 
-modify_with_new : (rules : Result (List QosRule) QosFault) (psi : ℕ) (ops : List Operation) (w : Work) → IsNewWhereDone w (modify_with rules psi ops w)
+modify_with_new : (rules : Result (List QosRule) QosFault) (psi : ℕ) (ops : List Operation) (w : Work)
+    → IsNewWhereDone w (modify_with rules psi ops w)
 unfolding modified_by
 modify_with_new (Ok rules) psi ops w =
     let new : OpenTransaction = request psi None (modification_request ops) w in

@@ -49,7 +49,8 @@ use Rattle.ue_sm.specs.declared.mobility.Ending.TheVariants as ending
 use Rattle.ue_sm.specs.declared.work.Work.{Work}
 
 -- what a step leaves is what its row leaves
-finished_state : (r : Result Work SmStepRefusal) (new : Stepped) → finished r ≡ Ok new → (w : Work) × (r ≡ Ok w) × (w.state ≡ new.state)
+finished_state : (r : Result Work SmStepRefusal) (new : Stepped) → finished r ≡ Ok new
+    → (w : Work) × (r ≡ Ok w) × (w.state ≡ new.state)
 finished_state (Ok w) new e =
     let stepped : Stepped = record { state = w.state; outs = w.outs } in
     let same : stepped ≡ new = cc in
@@ -57,16 +58,20 @@ finished_state (Ok w) new e =
 finished_state (Err refusal) new e = cc
 
 -- no identity is used twice
-stayed : (s : SmState) (now : ℕ) (w : Work) (new : Stepped) → Stays s w.state → finished (Ok w) ≡ Ok new → HaveNewIdentities s new.state
+stayed : (s : SmState) (now : ℕ) (w : Work) (new : Stepped) → Stays s w.state → finished (Ok w) ≡ Ok new
+    → HaveNewIdentities s new.state
 stayed s now w new stays e =
     let done : (v : Work) × (Ok w ≡ Ok v) × (v.state ≡ new.state) = finished_state (Ok w) new e in
     let same : w ≡ done.0 = let f : Ok w ≡ Ok done.0 = done.1 in cc in
-    subst (λ (x : SmState). HaveNewIdentities s x) (ap (λ (x : Work). x.state) same ∙ done.2) (stays_new s w.state stays)
+    subst (λ (x : SmState). HaveNewIdentities s x) (ap (λ (x : Work). x.state) same ∙ done.2)
+    (stays_new s w.state stays)
 
-moved : (s : SmState) (now : ℕ) (w : Work) (new : Stepped) → MovesSome (started s now) w → finished (Ok w) ≡ Ok new → HaveNewIdentities s new.state
+moved : (s : SmState) (now : ℕ) (w : Work) (new : Stepped) → MovesSome (started s now) w → finished (Ok w) ≡ Ok new
+    → HaveNewIdentities s new.state
 moved s now w new some e = stayed s now w new (stays_moved some.session (started s now) some.moves) e
 
-ended_by : (ending : Ending) (s : SmState) (now : ℕ) (new : Stepped) → finished (Ok (left_by ending (started s now))) ≡ Ok new → HaveNewIdentities s new.state
+ended_by : (ending : Ending) (s : SmState) (now : ℕ) (new : Stepped)
+    → finished (Ok (left_by ending (started s now))) ≡ Ok new → HaveNewIdentities s new.state
 unfolding left_by
 ended_by ending s now new e = stayed s now (left_by ending (started s now)) new (all_left_stays ending s) e
 
@@ -76,9 +81,12 @@ identities s now (Command command) new e other =
     let done : (v : Work) × (commanded command (started s now) ≡ Ok v) × (v.state ≡ new.state) =
     finished_state (commanded command (started s now)) new e in
     subst (λ (x : SmState). HaveNewIdentities s x) done.2 (commanded_new command (started s now) done.0 done.1)
-identities s now (Frame octets) new e other = moved s now (delivered octets (started s now)) new (delivered_moves_some octets (started s now)) e
-identities s now (NotForwarded octets) new e other = moved s now (not_forwarded octets (started s now)) new (not_forwarded_moves octets (started s now)) e
-identities s now (Expired id) new e other = stayed s now (expired id (started s now)) new (expired_stays id (started s now)) e
+identities s now (Frame octets) new e other =
+    moved s now (delivered octets (started s now)) new (delivered_moves_some octets (started s now)) e
+identities s now (NotForwarded octets) new e other =
+    moved s now (not_forwarded octets (started s now)) new (not_forwarded_moves octets (started s now)) e
+identities s now (Expired id) new e other =
+    stayed s now (expired id (started s now)) new (expired_stays id (started s now)) e
 identities s now NewContext new e other = absurd (other refl)
 identities s now Abandon new e other = ended_by ending.Abandon s now new e
 identities s now Clear new e other = ended_by ending.Clear s now new e
@@ -105,7 +113,8 @@ only_moved : (n : ℕ) (w : Work) {new : Work} → is_psi n ≡ true → Moves n
 only_moved n w is unmoved = only_same n w.state
 only_moved n w is (carries dnn frame moves) = only_moved n w is moves
 only_moved n w is (ends {v} c follows none moves) =
-    only_put n c w.state (stopped n v).state is (subst (λ (s : SmState). OnlyChanges n w.state s) (sym (stopped_keeps n v)) (only_moved n w is moves))
+    only_put n c w.state (stopped n v).state is
+    (subst (λ (s : SmState). OnlyChanges n w.state s) (sym (stopped_keeps n v)) (only_moved n w is moves))
 only_moved n w is (keeps {v} c follows same moves) = only_put n c w.state v.state is (only_moved n w is moves)
 
 pub one_session : (s : SmState) (now : ℕ) (octets : List ℕ) → ChangesOneSession s now octets
@@ -119,7 +128,8 @@ one_session s now octets psi new names e =
     (only_moved psi (started s now) (psi_named (octet_at octets 1) psi names) (delivered_moves psi octets (started s now) names))
 
 -- octets that are a message do what it does
-delivered_as : (octets : List ℕ) (psi n : ℕ) (message : Sm) (w : Work) → AreMessage octets psi n message → delivered octets w ≡ received psi n message w
+delivered_as : (octets : List ℕ) (psi n : ℕ) (message : Sm) (w : Work) → AreMessage octets psi n message
+    → delivered octets w ≡ received psi n message w
 unfolding delivered per
 delivered_as octets psi n message w are =
     ap (λ (o : Option ℕ). per o w (λ (p : ℕ). read (sm_in octets) p octets w)) are.session
@@ -136,9 +146,11 @@ same_bytes : (octets : List ℕ) → bytes_eq octets octets ≡ true
 same_bytes octets = (bytes_eq-Decides octets octets).1 refl
 
 same_ambr : (a : Ambr) → is_same_ambr a a ≡ true
-same_ambr a = rw (eq-eqb a.down_unit a.down_unit refl, eq-eqb a.down a.down refl, eq-eqb a.up_unit a.up_unit refl, eq-eqb a.up a.up refl) refl
+same_ambr a =
+    rw (eq-eqb a.down_unit a.down_unit refl, eq-eqb a.down a.down refl, eq-eqb a.up_unit a.up_unit refl, eq-eqb a.up a.up refl) refl
 
-same_if_there : {A : Type 0} (same : A → A → Bool) → ((x : A) → same x x ≡ true) → (o : Option A) → is_same_if_there same o o ≡ true
+same_if_there : {A : Type 0} (same : A → A → Bool) → ((x : A) → same x x ≡ true) → (o : Option A)
+    → is_same_if_there same o o ≡ true
 same_if_there same each None = refl
 same_if_there same each (Some x) = each x
 
@@ -157,7 +169,8 @@ same_last : (c : Cell) (last : Answered) → last_answered c ≡ Some last
 unfolding same_answer per
 same_last c last is = ap (again last.pti last.command) is ∙ again_last last
 
-answered_again : (psi n : ℕ) (message : Sm) (answer : Answer) (w : Work) → same_answer n message (cell psi w) ≡ Some answer
+answered_again : (psi n : ℕ) (message : Sm) (answer : Answer) (w : Work)
+    → same_answer n message (cell psi w) ≡ Some answer
     → received psi n message w ≡ answer_with psi n answer w
 unfolding received per
 answered_again psi n message answer w is =
@@ -169,7 +182,8 @@ answers_again s now octets psi last is are =
     let w : Work = started s now in
     ap (λ (x : Work). finished (Ok x))
     (delivered_as octets psi last.pti (sm.PduSessionModificationCommand last.command) (started s now) are
-    ∙ answered_again psi last.pti (sm.PduSessionModificationCommand last.command) last.answer (started s now) (same_last (cell_of psi s) last is))
+    ∙ answered_again psi last.pti (sm.PduSessionModificationCommand last.command) last.answer (started s now)
+    (same_last (cell_of psi s) last is))
 
 -- a command is ignored while its session is released
 discarded : (case : PtiCase) → collide_sm words.InactivePending kinds.PduSessionModificationCommand case ≡ Discard
@@ -183,7 +197,8 @@ ignored : (psi n : ℕ) (command : PduSessionModificationCommand) (held : Held) 
     (λ (answer : Answer). answer_with psi n answer w) ≡ w
 unfolding same_answer per
 ignored psi n command held t w =
-    ap (λ a. by_action a psi n (sm.PduSessionModificationCommand command) w) (discarded (pti_case n (InactivePending held t)))
+    ap (λ a. by_action a psi n (sm.PduSessionModificationCommand command) w)
+    (discarded (pti_case n (InactivePending held t)))
 
 pub ignores : (s : SmState) (now : ℕ) (octets : List ℕ) → IgnoresWhileReleasing s now octets
 unfolding worked

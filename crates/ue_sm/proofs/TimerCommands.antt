@@ -39,7 +39,8 @@ refused_even psi r e new clash = cc
 
 identified_even : (psi : ℕ) (r : Running) (w done : Work) → Even psi r done → EvenWhereDone psi r (with_identity w done)
 identified_even psi r w done even =
-    when_holds (λ (x : Result Work SmStepRefusal). EvenWhereDone psi r x) (w.state.next == 255) (Err (NoPti 254)) (Ok done)
+    when_holds (λ (x : Result Work SmStepRefusal). EvenWhereDone psi r x) (w.state.next == 255) (Err (NoPti 254))
+    (Ok done)
     (λ _. refused_even psi r (NoPti 254)) (λ _. done_even psi r done even)
 
 -- a step before anything went out
@@ -48,7 +49,8 @@ pub record Ready (psi : ℕ) (r : Running) (w : Work) : Type 0 where
   pub fifteen : length w.state.cells ≡ 15
   pub even : Even psi r w
 
-establish_even : (c : Cell) (n kind : ℕ) (dnn : List ℕ) (psi : ℕ) (r : Running) (w : Work) → c ≡ cell n w → is_psi n ≡ true → Ready psi r w
+establish_even : (c : Cell) (n kind : ℕ) (dnn : List ℕ) (psi : ℕ) (r : Running) (w : Work) → c ≡ cell n w
+    → is_psi n ≡ true → Ready psi r w
     → EvenWhereDone psi r (establish c n kind dnn w)
 unfolding established_by
 establish_even Inactive n kind dnn psi r w is n_is ready =
@@ -70,15 +72,19 @@ modify_with_even (Ok rules) n ops held psi r w is n_is ready =
     (ap (λ (c : Cell). timer_of n (awaiting_modification new c)) (sym is)) (ap running_in (sym is)) ready.even)
 modify_with_even (Err fault) n ops held psi r w is n_is ready = refused_even psi r (Qos fault)
 
-modify_even : (c : Cell) (n : ℕ) (ops : List Operation) (psi : ℕ) (r : Running) (w : Work) → c ≡ cell n w → is_psi n ≡ true → Ready psi r w
+modify_even : (c : Cell) (n : ℕ) (ops : List Operation) (psi : ℕ) (r : Running) (w : Work) → c ≡ cell n w
+    → is_psi n ≡ true → Ready psi r w
     → EvenWhereDone psi r (modify c n ops w)
 modify_even Inactive n ops psi r w is n_is ready = refused_even psi r (NoSuchSession n)
 modify_even (ActivePending t) n ops psi r w is n_is ready = refused_even psi r (WrongState words.ActivePending)
-modify_even (Active held) n ops psi r w is n_is ready = modify_with_even (all_applied ops held.session.rules) n ops held psi r w is n_is ready
-modify_even (ModificationPending held t) n ops psi r w is n_is ready = refused_even psi r (WrongState words.ModificationPending)
+modify_even (Active held) n ops psi r w is n_is ready =
+    modify_with_even (all_applied ops held.session.rules) n ops held psi r w is n_is ready
+modify_even (ModificationPending held t) n ops psi r w is n_is ready =
+    refused_even psi r (WrongState words.ModificationPending)
 modify_even (InactivePending held t) n ops psi r w is n_is ready = refused_even psi r (WrongState words.InactivePending)
 
-release_even : (c : Cell) (n psi : ℕ) (r : Running) (w : Work) → c ≡ cell n w → is_psi n ≡ true → Ready psi r w → EvenWhereDone psi r (release c n w)
+release_even : (c : Cell) (n psi : ℕ) (r : Running) (w : Work) → c ≡ cell n w → is_psi n ≡ true → Ready psi r w
+    → EvenWhereDone psi r (release c n w)
 unfolding released_by
 release_even Inactive n psi r w is n_is ready = refused_even psi r (NoSuchSession n)
 release_even (ActivePending t) n psi r w is n_is ready = refused_even psi r (WrongState words.ActivePending)
@@ -87,12 +93,15 @@ release_even (Active held) n psi r w is n_is ready =
     identified_even psi r w (released_by n w)
     (begun_even n psi (T3582 n) (awaiting_release new (cell n w)) new w r n_is ready.named ready.fifteen
     (ap (λ (c : Cell). timer_of n (awaiting_release new c)) (sym is)) (ap running_in (sym is)) ready.even)
-release_even (ModificationPending held t) n psi r w is n_is ready = refused_even psi r (WrongState words.ModificationPending)
+release_even (ModificationPending held t) n psi r w is n_is ready =
+    refused_even psi r (WrongState words.ModificationPending)
 release_even (InactivePending held t) n psi r w is n_is ready = refused_even psi r (WrongState words.InactivePending)
 
-pub commanded_even : (command : SmCommand) (psi : ℕ) (r : Running) (w : Work) → names_session command ≡ true → Ready psi r w
+pub commanded_even : (command : SmCommand) (psi : ℕ) (r : Running) (w : Work) → names_session command ≡ true
+    → Ready psi r w
     → EvenWhereDone psi r (commanded command w)
 unfolding commanded
-commanded_even (Establish n kind dnn) psi r w named ready = establish_even (cell n w) n kind dnn psi r w refl named ready
+commanded_even (Establish n kind dnn) psi r w named ready =
+    establish_even (cell n w) n kind dnn psi r w refl named ready
 commanded_even (Modify n ops) psi r w named ready = modify_even (cell n w) n ops psi r w refl named ready
 commanded_even (Release n) psi r w named ready = release_even (cell n w) n psi r w refl named ready

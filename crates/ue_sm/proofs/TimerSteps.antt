@@ -36,19 +36,24 @@ requests_after psi n id t w r =
 abbrev pub Requesting : ℕ → TimerId → Cell → Type 0
 Requesting n id c = timer_of n c ≡ Some id
 
-begun_own : (psi : ℕ) (id : TimerId) (c : Cell) (t : OpenTransaction) (w : Work) (r : Running) → is_psi psi ≡ true → length w.state.cells ≡ 15
+begun_own : (psi : ℕ) (id : TimerId) (c : Cell) (t : OpenTransaction) (w : Work) (r : Running) → is_psi psi ≡ true
+    → length w.state.cells ≡ 15
     → Requesting psi id c → running_in (cell psi w) ≡ no_timer → Even psi r w → Even psi r (begun psi id c t w)
 begun_own psi id c t w r is fifteen requests none even =
-    requests_after psi psi id t (identified w) r ∙ ap (with_timer psi id true) (even ∙ none) ∙ own_timer_on psi id c requests
+    requests_after psi psi id t (identified w) r ∙ ap (with_timer psi id true) (even ∙ none)
+    ∙ own_timer_on psi id c requests
     ∙ ap running_in (sym (put_here psi c (requested psi id t w).state is fifteen))
 
-begun_other : (n psi : ℕ) (id : TimerId) (c : Cell) (t : OpenTransaction) (w : Work) (r : Running) → is_psi n ≡ true → is_psi psi ≡ true → ¬ (psi ≡ n)
+begun_other : (n psi : ℕ) (id : TimerId) (c : Cell) (t : OpenTransaction) (w : Work) (r : Running) → is_psi n ≡ true
+    → is_psi psi ≡ true → ¬ (psi ≡ n)
     → Requesting n id c → Even psi r w → Even psi r (begun n id c t w)
 begun_other n psi id c t w r n_is is differs requests even =
-    requests_after psi n id t (identified w) r ∙ other_timer n psi id c true (running_after psi w.outs r) differs requests ∙ even
+    requests_after psi n id t (identified w) r
+    ∙ other_timer n psi id c true (running_after psi w.outs r) differs requests ∙ even
     ∙ ap running_in (sym (put_elsewhere n psi c (requested n id t w).state n_is is differs))
 
-begun_even_by : (n psi : ℕ) (id : TimerId) (c : Cell) (t : OpenTransaction) (w : Work) (r : Running) → is_psi n ≡ true → is_psi psi ≡ true
+begun_even_by : (n psi : ℕ) (id : TimerId) (c : Cell) (t : OpenTransaction) (w : Work) (r : Running) → is_psi n ≡ true
+    → is_psi psi ≡ true
     → length w.state.cells ≡ 15 → Requesting n id c → running_in (cell n w) ≡ no_timer → Even psi r w
     → (psi ≡ n) ⊎ (¬ (psi ≡ n)) → Even psi r (begun n id c t w)
 begun_even_by n psi id c t w r n_is is fifteen requests none even (inl e) =
@@ -58,29 +63,37 @@ begun_even_by n psi id c t w r n_is is fifteen requests none even (inl e) =
 begun_even_by n psi id c t w r n_is is fifteen requests none even (inr differs) =
     begun_other n psi id c t w r n_is is differs requests even
 
-pub begun_even : (n psi : ℕ) (id : TimerId) (c : Cell) (t : OpenTransaction) (w : Work) (r : Running) → is_psi n ≡ true → is_psi psi ≡ true
-    → length w.state.cells ≡ 15 → Requesting n id c → running_in (cell n w) ≡ no_timer → Even psi r w → Even psi r (begun n id c t w)
+pub begun_even : (n psi : ℕ) (id : TimerId) (c : Cell) (t : OpenTransaction) (w : Work) (r : Running) → is_psi n ≡ true
+    → is_psi psi ≡ true
+    → length w.state.cells ≡ 15 → Requesting n id c → running_in (cell n w) ≡ no_timer → Even psi r w
+    → Even psi r (begun n id c t w)
 begun_even n psi id c t w r n_is is fifteen requests none even =
     begun_even_by n psi id c t w r n_is is fifteen requests none even (either n psi)
 
 -- A timer expired: nothing went out before.
-resent_own : (psi : ℕ) (id : TimerId) (t : OpenTransaction) (w : Work) → is_psi psi ≡ true → length w.state.cells ≡ 15 → w.outs ≡ []
-    → Requesting psi id (cell psi w) → Even psi (with_timer psi id false (running_in (cell psi w))) (start id (send psi t (put psi (resent (cell psi w)) w)))
+resent_own : (psi : ℕ) (id : TimerId) (t : OpenTransaction) (w : Work) → is_psi psi ≡ true → length w.state.cells ≡ 15
+    → w.outs ≡ []
+    → Requesting psi id (cell psi w)
+    → Even psi (with_timer psi id false (running_in (cell psi w))) (start id (send psi t (put psi (resent (cell psi w)) w)))
 resent_own psi id t w is fifteen none requests =
     let r : Running = with_timer psi id false (running_in (cell psi w)) in
     requests_after psi psi id t (put psi (resent (cell psi w)) w) (with_timer psi id false (running_in (cell psi w)))
     ∙ ap (λ outs. with_timer psi id true (running_after psi outs (with_timer psi id false (running_in (cell psi w))))) none
-    ∙ ap (with_timer psi id true) (own_timer_off psi id (cell psi w) requests) ∙ own_timer_on psi id (cell psi w) requests
+    ∙ ap (with_timer psi id true) (own_timer_off psi id (cell psi w) requests)
+    ∙ own_timer_on psi id (cell psi w) requests
     ∙ sym (resent_runs (cell psi w)) ∙ ap running_in (sym (put_here psi (resent (cell psi w)) w.state is fifteen))
 
 given_up_own : (psi : ℕ) (id : TimerId) (w : Work) → is_psi psi ≡ true → length w.state.cells ≡ 15 → w.outs ≡ []
-    → Requesting psi id (cell psi w) → Even psi (with_timer psi id false (running_in (cell psi w))) (put psi (unanswered (cell psi w)) w)
+    → Requesting psi id (cell psi w)
+    → Even psi (with_timer psi id false (running_in (cell psi w))) (put psi (unanswered (cell psi w)) w)
 given_up_own psi id w is fifteen none requests =
     ap (λ outs. running_after psi outs (with_timer psi id false (running_in (cell psi w)))) none
-    ∙ own_timer_off psi id (cell psi w) requests ∙ sym (none_runs (unanswered (cell psi w)) (unanswered_ends (cell psi w)))
+    ∙ own_timer_off psi id (cell psi w) requests
+    ∙ sym (none_runs (unanswered (cell psi w)) (unanswered_ends (cell psi w)))
     ∙ ap running_in (sym (put_here psi (unanswered (cell psi w)) w.state is fifteen))
 
-unheard_own : (psi : ℕ) (id : TimerId) (t : OpenTransaction) (w : Work) → is_psi psi ≡ true → length w.state.cells ≡ 15 → w.outs ≡ []
+unheard_own : (psi : ℕ) (id : TimerId) (t : OpenTransaction) (w : Work) → is_psi psi ≡ true → length w.state.cells ≡ 15
+    → w.outs ≡ []
     → Requesting psi id (cell psi w) → Even psi (with_timer psi id false (running_in (cell psi w))) (unheard psi id t w)
 unheard_own psi id t w is fifteen none requests =
     when_holds (λ (x : Work). Even psi (with_timer psi id false (running_in (cell psi w))) x) (nat_lt t.sendings 5)
@@ -88,7 +101,8 @@ unheard_own psi id t w is fifteen none requests =
     (λ _. resent_own psi id t w is fifteen none requests) (λ _. given_up_own psi id w is fifteen none requests)
 
 -- where it is the transaction's own, and where it isn't
-pub awaited_own : (is_open : Bool) (psi : ℕ) (id : TimerId) (w : Work) → is_psi psi ≡ true → length w.state.cells ≡ 15 → w.outs ≡ []
+pub awaited_own : (is_open : Bool) (psi : ℕ) (id : TimerId) (w : Work) → is_psi psi ≡ true → length w.state.cells ≡ 15
+    → w.outs ≡ []
     → (is_open ≡ true → (Requesting psi id (cell psi w)) × ((t : OpenTransaction) × (transaction_of (cell psi w) ≡ Some t)))
     → (is_open ≡ false → with_timer psi id false (running_in (cell psi w)) ≡ running_in (cell psi w))
     → Even psi (with_timer psi id false (running_in (cell psi w))) (awaited is_open psi id w)
@@ -103,7 +117,8 @@ awaited_own is_open psi id w is fifteen none own stale =
     (λ closed. ap (λ outs. running_after psi outs (with_timer psi id false (running_in (cell psi w)))) none ∙ stale closed)
 
 -- of another session nothing changes
-unheard_other : (n psi : ℕ) (id : TimerId) (t : OpenTransaction) (w : Work) (r : Running) → is_psi n ≡ true → is_psi psi ≡ true → ¬ (psi ≡ n)
+unheard_other : (n psi : ℕ) (id : TimerId) (t : OpenTransaction) (w : Work) (r : Running) → is_psi n ≡ true
+    → is_psi psi ≡ true → ¬ (psi ≡ n)
     → ((runs : Bool) (q : Running) → with_timer psi id runs q ≡ q) → Even psi r w → Even psi r (unheard n id t w)
 unheard_other n psi id t w r n_is is differs apart even =
     when_holds (λ (x : Work). Even psi r x) (nat_lt t.sendings 5)
@@ -112,7 +127,8 @@ unheard_other n psi id t w r n_is is differs apart even =
     ∙ ap running_in (sym (put_elsewhere n psi (resent (cell n w)) w.state n_is is differs)))
     (λ _. even ∙ ap running_in (sym (put_elsewhere n psi (unanswered (cell n w)) w.state n_is is differs)))
 
-pub awaited_other : (is_open : Bool) (n psi : ℕ) (id : TimerId) (w : Work) (r : Running) → is_psi n ≡ true → is_psi psi ≡ true → ¬ (psi ≡ n)
+pub awaited_other : (is_open : Bool) (n psi : ℕ) (id : TimerId) (w : Work) (r : Running) → is_psi n ≡ true
+    → is_psi psi ≡ true → ¬ (psi ≡ n)
     → ((runs : Bool) (q : Running) → with_timer psi id runs q ≡ q) → Even psi r w → Even psi r (awaited is_open n id w)
 awaited_other is_open n psi id w r n_is is differs apart even =
     when_holds (λ (x : Work). Even psi r x) is_open
@@ -138,23 +154,30 @@ pub record EvenBehind (ending : Ending) (psi n : ℕ) (r : Running) (w told : Wo
   pub even : running_after psi told.outs r ≡ running_in (cell_of psi s)
   pub later : n < psi → cell_of psi s ≡ cell_of psi w.state
 
-leaves_fifteen : (ending : Ending) (n : ℕ) (s : SmState) → length s.cells ≡ 15 → length (leave_one ending n s).cells ≡ 15
+leaves_fifteen : (ending : Ending) (n : ℕ) (s : SmState) → length s.cells ≡ 15
+    → length (leave_one ending n s).cells ≡ 15
 leaves_fifteen ending n s fifteen =
-    when_holds (λ (x : SmState). length x.cells ≡ 15) (concerns ending n (cell_of n s)) (put_cell n (left_of ending (cell_of n s)) s) s
+    when_holds (λ (x : SmState). length x.cells ≡ 15) (concerns ending n (cell_of n s))
+    (put_cell n (left_of ending (cell_of n s)) s) s
     (λ _. put_fifteen n (left_of ending (cell_of n s)) s fifteen) (λ _. fifteen)
 
-leaves_elsewhere : (ending : Ending) (n psi : ℕ) (s : SmState) → is_psi n ≡ true → is_psi psi ≡ true → ¬ (psi ≡ n) → cell_of psi (leave_one ending n s) ≡ cell_of psi s
+leaves_elsewhere : (ending : Ending) (n psi : ℕ) (s : SmState) → is_psi n ≡ true → is_psi psi ≡ true → ¬ (psi ≡ n)
+    → cell_of psi (leave_one ending n s) ≡ cell_of psi s
 leaves_elsewhere ending n psi s n_is is differs =
-    when_holds (λ (x : SmState). cell_of psi x ≡ cell_of psi s) (concerns ending n (cell_of n s)) (put_cell n (left_of ending (cell_of n s)) s) s
+    when_holds (λ (x : SmState). cell_of psi x ≡ cell_of psi s) (concerns ending n (cell_of n s))
+    (put_cell n (left_of ending (cell_of n s)) s) s
     (λ _. put_elsewhere n psi (left_of ending (cell_of n s)) s n_is is differs) (λ _. refl)
 
-stops_elsewhere : (ending : Ending) (n psi : ℕ) (w : Work) (r : Running) → ¬ (psi ≡ n) → running_after psi (stop_one ending n w).outs r ≡ running_after psi w.outs r
+stops_elsewhere : (ending : Ending) (n psi : ℕ) (w : Work) (r : Running) → ¬ (psi ≡ n)
+    → running_after psi (stop_one ending n w).outs r ≡ running_after psi w.outs r
 stops_elsewhere ending n psi w r differs =
-    when_holds (λ (x : Work). running_after psi x.outs r ≡ running_after psi w.outs r) (concerns ending n (cell n w)) (stopped n w) w
+    when_holds (λ (x : Work). running_after psi x.outs r ≡ running_after psi w.outs r) (concerns ending n (cell n w))
+    (stopped n w) w
     (λ _. other_stopped n psi w r differs) (λ _. refl)
 
 -- the session itself: both look at the same
-ended_by_test : (test : Bool) (ending : Ending) (psi : ℕ) (told : Work) (s : SmState) (r : Running) → is_psi psi ≡ true → length s.cells ≡ 15
+ended_by_test : (test : Bool) (ending : Ending) (psi : ℕ) (told : Work) (s : SmState) (r : Running) → is_psi psi ≡ true
+    → length s.cells ≡ 15
     → cell_of psi s ≡ cell psi told → running_after psi told.outs r ≡ running_in (cell psi told)
     → running_after psi (when test then stopped psi told else told).outs r
     ≡ running_in (cell_of psi (when test then put_cell psi (left_of ending (cell_of psi s)) s else s))
@@ -164,15 +187,18 @@ ended_by_test true ending psi told s r is fifteen same even =
     ∙ ap running_in (sym (put_here psi (left_of ending (cell_of psi s)) s is fifteen))
 ended_by_test false ending psi told s r is fifteen same even = even ∙ ap running_in (sym same)
 
-ended_here : (ending : Ending) (psi : ℕ) (told : Work) (s : SmState) (r : Running) → is_psi psi ≡ true → length s.cells ≡ 15 → cell_of psi s ≡ cell psi told
+ended_here : (ending : Ending) (psi : ℕ) (told : Work) (s : SmState) (r : Running) → is_psi psi ≡ true
+    → length s.cells ≡ 15 → cell_of psi s ≡ cell psi told
     → running_after psi told.outs r ≡ running_in (cell psi told)
     → running_after psi (stop_one ending psi told).outs r ≡ running_in (cell_of psi (leave_one ending psi s))
 ended_here ending psi told s r is fifteen same even =
     subst (λ (c : Cell). running_after psi (stop_one ending psi told).outs r
-    ≡ running_in (cell_of psi (when concerns ending psi c then put_cell psi (left_of ending (cell_of psi s)) s else s))) (sym same)
+    ≡ running_in
+    (cell_of psi (when concerns ending psi c then put_cell psi (left_of ending (cell_of psi s)) s else s))) (sym same)
     (ended_by_test (concerns ending psi (cell psi told)) ending psi told s r is fifteen same even)
 
-behind_own : (ending : Ending) (psi n m : ℕ) (r : Running) (w told : Work) (s : SmState) → is_psi psi ≡ true → m ≡ n + 1 → psi ≡ m
+behind_own : (ending : Ending) (psi n m : ℕ) (r : Running) (w told : Work) (s : SmState) → is_psi psi ≡ true → m ≡ n + 1
+    → psi ≡ m
     → EvenBehind ending psi n r w told s → EvenBehind ending psi m r w (stop_one ending m told) (leave_one ending m s)
 behind_own ending psi n m r w told s is next e before =
     let sooner : n < psi = omega arith in
@@ -185,7 +211,8 @@ behind_own ending psi n m r w told s is next e before =
       later = λ more. absurd (omega arith);
     }
 
-behind_other : (ending : Ending) (psi n m : ℕ) (r : Running) (w told : Work) (s : SmState) → is_psi psi ≡ true → is_psi m ≡ true → m ≡ n + 1 → ¬ (psi ≡ m)
+behind_other : (ending : Ending) (psi n m : ℕ) (r : Running) (w told : Work) (s : SmState) → is_psi psi ≡ true
+    → is_psi m ≡ true → m ≡ n + 1 → ¬ (psi ≡ m)
     → EvenBehind ending psi n r w told s → EvenBehind ending psi m r w (stop_one ending m told) (leave_one ending m s)
 behind_other ending psi n m r w told s is m_is next differs before = record {
   kept = stop_one_keeps ending m told ∙ before.kept;
@@ -194,19 +221,27 @@ behind_other ending psi n m r w told s is m_is next differs before = record {
   later = λ more. leaves_elsewhere ending m psi s m_is is differs ∙ before.later (omega arith);
 }
 
-behind_next : (ending : Ending) (psi n m : ℕ) (r : Running) (w told : Work) (s : SmState) → is_psi psi ≡ true → is_psi m ≡ true → m ≡ n + 1
-    → (psi ≡ m) ⊎ (¬ (psi ≡ m)) → EvenBehind ending psi n r w told s → EvenBehind ending psi m r w (stop_one ending m told) (leave_one ending m s)
-behind_next ending psi n m r w told s is m_is next (inl e) before = behind_own ending psi n m r w told s is next e before
-behind_next ending psi n m r w told s is m_is next (inr differs) before = behind_other ending psi n m r w told s is m_is next differs before
+behind_next : (ending : Ending) (psi n m : ℕ) (r : Running) (w told : Work) (s : SmState) → is_psi psi ≡ true
+    → is_psi m ≡ true → m ≡ n + 1
+    → (psi ≡ m) ⊎ (¬ (psi ≡ m)) → EvenBehind ending psi n r w told s
+    → EvenBehind ending psi m r w (stop_one ending m told) (leave_one ending m s)
+behind_next ending psi n m r w told s is m_is next (inl e) before =
+    behind_own ending psi n m r w told s is next e before
+behind_next ending psi n m r w told s is m_is next (inr differs) before =
+    behind_other ending psi n m r w told s is m_is next differs before
 
-behind : (ending : Ending) (psi n : ℕ) (r : Running) (w : Work) → n ≤ 15 → is_psi psi ≡ true → length w.state.cells ≡ 15 → Even psi r w
+behind : (ending : Ending) (psi n : ℕ) (r : Running) (w : Work) → n ≤ 15 → is_psi psi ≡ true → length w.state.cells ≡ 15
+    → Even psi r w
     → EvenBehind ending psi n r w (each (stop_one ending) n w) (each (leave_one ending) n w.state)
 unfolding each
-behind ending psi zero r w few is fifteen even = record { kept = refl; fifteen = fifteen; even = even; later = λ more. refl }
+behind ending psi zero r w few is fifteen even =
+    record { kept = refl; fifteen = fifteen; even = even; later = λ more. refl }
 behind ending psi (suc n) r w few is fifteen even =
-    behind_next ending psi n (suc n) r w (each (stop_one ending) n w) (each (leave_one ending) n w.state) is (psi_within (suc n) (omega arith) few) (omega arith)
+    behind_next ending psi n (suc n) r w (each (stop_one ending) n w) (each (leave_one ending) n w.state) is
+    (psi_within (suc n) (omega arith) few) (omega arith)
     (either (suc n) psi) (behind ending psi n r w (omega arith) is fifteen even)
 
-pub left_even : (ending : Ending) (psi : ℕ) (r : Running) (w : Work) → is_psi psi ≡ true → length w.state.cells ≡ 15 → Even psi r w → Even psi r (left_by ending w)
+pub left_even : (ending : Ending) (psi : ℕ) (r : Running) (w : Work) → is_psi psi ≡ true → length w.state.cells ≡ 15
+    → Even psi r w → Even psi r (left_by ending w)
 unfolding left_by every
 left_even ending psi r w is fifteen even = (behind ending psi 15 r w (omega arith) is fifteen even).even

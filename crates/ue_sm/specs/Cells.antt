@@ -63,10 +63,12 @@ timer_of psi (InactivePending held t) = Some (T3582 psi)
 abbrev pub pti_case : ℕ → Cell → PtiCase
 pti_case n cell =
     when n == 0 then pti.None
-    else per (transaction_of cell) pti.Foreign (λ (t : OpenTransaction). when t.request.pti == n then pti.Mine else pti.Foreign)
+    else per (transaction_of cell) pti.Foreign
+    (λ (t : OpenTransaction). when t.request.pti == n then pti.Mine else pti.Foreign)
 
--- Where a transaction ends without its answer, a session that was to be established, or to be released, is no more, and one that was to be
--- modified stays as it was: behind the fifth expiry of its timer, or where its request wasn't forwarded.
+-- Where a transaction ends without its answer, a session that was to be established, or to be
+-- released, is no more, and one that was to be modified stays as it was: behind the fifth expiry of
+-- its timer, or where its request wasn't forwarded.
 abbrev pub unanswered : Cell → Cell
 unanswered Inactive = Inactive
 unanswered (ActivePending t) = Inactive
@@ -105,7 +107,8 @@ awaiting_release new (Active held) = InactivePending held new
 awaiting_release new (ModificationPending held t) = ModificationPending held t
 awaiting_release new (InactivePending held t) = InactivePending held t
 
--- Such a request was rejected, which ends its transaction: the session is as it was, or no more where the network knows of none.
+-- Such a request was rejected, which ends its transaction: the session is as it was, or
+-- no more where the network knows of none.
 abbrev pub active_unless_unknown : ℕ → Held → Cell
 active_unless_unknown n held = when n == cause.INVALID_PDU_SESSION_IDENTITY then Inactive else Active held
 
@@ -127,9 +130,8 @@ answering answered (Active held) = Active (with_answer answered held)
 answering answered (ModificationPending held t) = ModificationPending (with_answer answered held) t
 answering answered (InactivePending held t) = InactivePending held t
 
--- A command that was applied, or refused, ends the transaction that is open. (The table takes none while a session is to be established
--- or released.) What it modifies is the session's rules and, where it
--- tells one, its AMBR.
+-- A command that was applied, or refused, ends the transaction that is open. (The table takes none while a session is
+-- to be established or released.) What it modifies is the session's rules and, where it tells one, its AMBR.
 abbrev pub ambr_by : PduSessionModificationCommand → SessionValues → Ambr
 ambr_by command session = per command.ambr session.ambr (λ (ambr : Ambr). ambr)
 

@@ -1,4 +1,5 @@
--- The commands that a handset's sessions are given (TS 24.501 clauses 6.4.1.2, 6.4.2.2 and 6.4.3.2), and what each is refused for.
+-- The commands that a handset's sessions are given (TS 24.501 clauses 6.4.1.2, 6.4.2.2
+-- and 6.4.3.2), and what each is refused for.
 use Rattle.std.specs.Prelude.{ℕ, ◌==◌, List, Result, Ok, Err}
 use Rattle.nas_base.specs.Branches.{when◌then◌else◌}
 use Rattle.nas_qos.specs.Applying.{all_applied}
@@ -30,7 +31,8 @@ establish (Active held) psi kind dnn w = Err (SessionThere psi)
 establish (ModificationPending held t) psi kind dnn w = Err (SessionThere psi)
 establish (InactivePending held t) psi kind dnn w = Err (SessionThere psi)
 
--- only a session that is there and has nothing under way can be modified or released; and only by operations that apply to its rules
+-- only a session that is there and has nothing under way can be modified or released; and
+-- only by operations that apply to its rules
 abbrev pub modify_with : Result (List QosRule) QosFault → ℕ → List Operation → Work → Result Work SmStepRefusal
 modify_with (Ok rules) psi ops w = with_identity w (modified_by psi ops w)
 modify_with (Err fault) psi ops w = Err (Qos fault)

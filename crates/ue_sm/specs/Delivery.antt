@@ -50,7 +50,8 @@ by_action Status98 psi pti message w = status psi pti cause.MESSAGE_TYPE_NOT_COM
 by_action Status43 psi pti message w = status psi pti cause.INVALID_PDU_SESSION_IDENTITY w
 by_action Status47 psi pti message w = mismatched psi pti message w
 
--- A command that is equal to the last that the session answered gets the same answer; every other message goes by the table.
+-- A command that is equal to the last that the session answered gets the same
+-- answer; every other message goes by the table.
 unfoldable pub received : ℕ → ℕ → Sm → Work → Work
 received psi pti message w =
     per (same_answer pti message (cell psi w)) (by_action (action pti message (cell psi w)) psi pti message w)
@@ -64,12 +65,13 @@ octet_at octets index = slice_index_or octets index 0
 abbrev pub five_gsm_status : ℕ
 five_gsm_status = 0xd6
 
--- What the octets read as. A message of an unknown type, or whose mandatory part is wrong, is answered with 5GSM STATUS (clauses 7.4
--- and 7.5.1).
+-- What the octets read as. A message of an unknown type, or whose mandatory part is wrong, is answered
+-- with 5GSM STATUS (clauses 7.4 and 7.5.1).
 abbrev pub read : Result SmFrame SmRefusal → ℕ → List ℕ → Work → Work
 read (Ok frame) psi octets w = received psi frame.pti frame.body w
 read (Err (Ignored at)) psi octets w = w
-read (Err (UnknownType n)) psi octets w = status psi (octet_at octets 2) cause.MESSAGE_TYPE_NON_EXISTENT_OR_NOT_IMPLEMENTED w
+read (Err (UnknownType n)) psi octets w =
+    status psi (octet_at octets 2) cause.MESSAGE_TYPE_NON_EXISTENT_OR_NOT_IMPLEMENTED w
 read (Err (Mandatory n at)) psi octets w =
     when octet_at octets 3 == five_gsm_status then w
     else status psi (octet_at octets 2) cause.INVALID_MANDATORY_INFORMATION w

@@ -38,10 +38,11 @@ accepted_session m rules = record {
   rules = rules;
 }
 
--- PDU SESSION ESTABLISHMENT ACCEPT. One whose operations don't apply where there are no rules yet is answered with 5GSM STATUS, and
--- there is no session.
+-- PDU SESSION ESTABLISHMENT ACCEPT. One whose operations don't apply where there are no rules yet is answered with 5GSM
+-- STATUS, and there is no session.
 abbrev pub accepted_with : Result (List QosRule) ℕ → ℕ → ℕ → PduSessionEstablishmentAccept → Work → Work
-accepted_with (Ok rules) psi pti m w = ended psi (Active (record { session = accepted_session m rules; answered = None })) w
+accepted_with (Ok rules) psi pti m w =
+    ended psi (Active (record { session = accepted_session m rules; answered = None })) w
 accepted_with (Err n) psi pti m w = status psi pti n (ended psi Inactive w)
 
 unfoldable pub establishment_accepted : ℕ → ℕ → PduSessionEstablishmentAccept → Work → Work

@@ -24,8 +24,8 @@ pub record AreMessage (octets : List ℕ) (psi pti : ℕ) (message : Sm) : Type 
   pub session : psi_from (octet_at octets 1) ≡ Some psi
   pub reads : sm_in octets ≡ Ok (record { psi = psi; pti = pti; body = message })
 
--- A MODIFICATION COMMAND that is equal to the last that the session answered gets the same answer, and nothing changes (TS 24.501
--- clause 6.3.2.3).
+-- In Active and Modification Pending a MODIFICATION COMMAND that is equal to the last that the session answered gets
+-- the same answer, and nothing changes (TS 24.501 clause 6.3.2.3).
 abbrev pub AnswersAgain : SmState → ℕ → List ℕ → Type 0
 AnswersAgain s now octets =
     (psi : ℕ) (last : Answered) → last_answered (cell_of psi s) ≡ Some last
@@ -52,11 +52,16 @@ WasOpen before t = (earlier : OpenTransaction) × (transaction_of before ≡ Som
 abbrev pub IsNew : SmState → SmState → OpenTransaction → Type 0
 IsNew s new t = (t.request.pti ≡ s.next) × (new.next ≡ s.next + 1)
 
--- Before a context is taken into use, no identity is used by two transactions: the next one only rises, each identity that was used is
--- below it, and a transaction that is open was so before or has the one that was next (clause 6.3.1).
+-- Under one context no identity is used by two transactions: the next one only rises, each identity that was
+-- used is below it, and a transaction that is open was so before or has the one that was next, which one of
+-- all sessions has at most (clause 6.2.1).
 pub record HaveNewIdentities (s new : SmState) : Type 0 where
   pub rises : s.next ≤ new.next
   pub transactions : (psi : ℕ) (t : OpenTransaction) → transaction_of (cell_of psi new) ≡ Some t → WasOpen (cell_of psi s) t ⊎ IsNew s new t
+  pub alone :
+      (psi other : ℕ) (t u : OpenTransaction) → is_psi psi ≡ true → is_psi other ≡ true → ¬ (other ≡ psi)
+      → transaction_of (cell_of psi new) ≡ Some t → transaction_of (cell_of other new) ≡ Some u
+      → WasOpen (cell_of psi s) t ⊎ WasOpen (cell_of other s) u
 
 abbrev pub UsesNewIdentities : SmState → ℕ → SmInput → Type 0
 UsesNewIdentities s now input =

@@ -18,8 +18,9 @@ use Rattle.ue_sm.specs.declared.work.Work.{Work}
 unfoldable pub renewed : Work → Work
 renewed w = record w { state = record w.state { next = 1 } }
 
--- Which sessions an ending concerns. Where all transactions are abandoned, or all sessions are cleared, it is each; where the network told
--- which sessions it has, it is each that the handset has and the network hasn't (clause 5.5.1.2.4).
+-- Which sessions an ending concerns. Where all transactions are abandoned, or all sessions are
+-- cleared, it is each; where the network told which sessions it has, it is each that the handset has
+-- and the network hasn't (clause 5.5.1.3.4).
 abbrev pub concerns : Ending → ℕ → Cell → Bool
 concerns Abandon psi c = true
 concerns Clear psi c = true
@@ -36,7 +37,8 @@ abbrev pub stop_one : Ending → ℕ → Work → Work
 stop_one ending psi w = when concerns ending psi (cell psi w) then stopped psi w else w
 
 abbrev pub leave_one : Ending → ℕ → SmState → SmState
-leave_one ending psi s = when concerns ending psi (cell_of psi s) then put_cell psi (left_of ending (cell_of psi s)) s else s
+leave_one ending psi s =
+    when concerns ending psi (cell_of psi s) then put_cell psi (left_of ending (cell_of psi s)) s else s
 
 abbrev pub all_stopped : Ending → Work → Work
 all_stopped ending w = every (stop_one ending) w
@@ -47,8 +49,8 @@ all_left ending s = every (leave_one ending) s
 unfoldable pub left_by : Ending → Work → Work
 left_by ending w = record (all_stopped ending w) { state = all_left ending w.state }
 
--- A message of a session that wasn't forwarded ends the transaction whose identity is in its head (clause 5.4.5.3.1). What kind of
--- message it is isn't looked at.
+-- A message of a session that wasn't forwarded ends the transaction whose identity is in its head (clause 5.4.5.3.1).
+-- What kind of message it is isn't looked at.
 abbrev pub has_head : List ℕ → Bool
 has_head octets = nat_le 4 (length octets) && octet_at octets 0 == 0x2e
 
@@ -59,4 +61,5 @@ unforwarded psi pti w =
 
 unfoldable pub not_forwarded : List ℕ → Work → Work
 not_forwarded octets w =
-    when has_head octets then per (psi_from (octet_at octets 1)) w (λ (psi : ℕ). unforwarded psi (octet_at octets 2) w) else w
+    when has_head octets
+    then per (psi_from (octet_at octets 1)) w (λ (psi : ℕ). unforwarded psi (octet_at octets 2) w) else w

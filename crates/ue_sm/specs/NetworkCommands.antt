@@ -1,4 +1,5 @@
--- The commands of the network: PDU SESSION MODIFICATION COMMAND (TS 24.501 clause 6.3.2) and PDU SESSION RELEASE COMMAND (clause 6.3.3).
+-- The commands of the network: PDU SESSION MODIFICATION COMMAND (TS 24.501 clause 6.3.2) and
+-- PDU SESSION RELEASE COMMAND (clause 6.3.3).
 use Rattle.std.specs.Prelude.{ℕ, Bool, true, false, ◌==◌, ◌&&◌, List, Option, Some, None, Result, Ok, Err}
 use Rattle.std.specs.Str.{bytes_eq}
 use Rattle.nas_base.specs.Branches.{per, when◌then◌else◌}
@@ -19,7 +20,8 @@ use Rattle.ue_sm.specs.declared.cells.Cell.{Cell}
 use Rattle.ue_sm.specs.declared.cells.Cell.TheVariants.{Inactive, ActivePending, Active, ModificationPending, InactivePending}
 use Rattle.ue_sm.specs.declared.work.Work.{Work}
 
--- what a MODIFICATION COMMAND is answered with: COMPLETE, COMMAND REJECT, or 5GSM STATUS where its transaction is unknown
+-- what a MODIFICATION COMMAND is answered with: COMPLETE, COMMAND REJECT, or
+-- 5GSM STATUS where its transaction is unknown
 abbrev pub message_of : Answer → Sm
 message_of Complete = sm.PduSessionModificationComplete
 message_of (Refused n) = sm.PduSessionModificationCommandReject (record { cause = n })
@@ -86,8 +88,8 @@ last_of pti command answer = record { pti = pti; command = command; answer = ans
 abbrev pub answer_with : ℕ → ℕ → Answer → Work → Work
 answer_with psi pti answer w = say psi pti (message_of answer) w
 
--- A command that is taken: it is applied and confirmed, or refused, and then nothing of the session changes. A transaction that was open
--- ends.
+-- A command that is taken: it is applied and confirmed, or refused, and then nothing of the session changes. A
+-- transaction that was open ends.
 abbrev pub applied_to : Result (List QosRule) ℕ → ℕ → ℕ → PduSessionModificationCommand → Work → Work
 applied_to (Ok rules) psi pti command w =
     answer_with psi pti Complete (ended psi (completed (last_of pti command Complete) rules (cell psi w)) w)
@@ -96,7 +98,8 @@ applied_to (Err n) psi pti command w =
 
 unfoldable pub modification_commanded : ℕ → ℕ → PduSessionModificationCommand → Work → Work
 modification_commanded psi pti command w =
-    per (session_of (cell psi w)) w (λ (session : SessionValues). applied_to (rules_by command session) psi pti command w)
+    per (session_of (cell psi w)) w
+    (λ (session : SessionValues). applied_to (rules_by command session) psi pti command w)
 
 -- A command whose transaction is unknown: 5GSM STATUS is its answer, and a transaction that is open stays so.
 unfoldable pub mismatched : ℕ → ℕ → Sm → Work → Work
@@ -106,4 +109,5 @@ mismatched psi pti message w =
 
 -- PDU SESSION RELEASE COMMAND: it is confirmed without a cause, and the session is no more, whatever was under way
 unfoldable pub release_commanded : ℕ → ℕ → Work → Work
-release_commanded psi pti w = say psi pti (sm.PduSessionReleaseComplete (record { cause = None })) (ended psi Inactive w)
+release_commanded psi pti w =
+    say psi pti (sm.PduSessionReleaseComplete (record { cause = None })) (ended psi Inactive w)

@@ -1,5 +1,6 @@
 -- What working on a step comes to.
-use Rattle.std.specs.Prelude.{◌≡◌, ℕ, List, Result, Ok, Err}
+use Rattle.std.specs.Prelude.{◌≡◌, Bool, true, false, ℕ, List, Result, Ok, Err}
+use Rattle.nas_base.specs.Outcomes.{RefusesAs}
 use Rattle.nas_qos.specs.Rules.{QosRule}
 use Rattle.ue_sm.specs.Transactions.{OpenTransaction}
 use Rattle.ue_sm.specs.declared.inputs.SmStepRefusal.{SmStepRefusal}
@@ -15,19 +16,24 @@ Works old new (Ok done) row = new ≡ row
 Works old new (Err e) row = new.state ≡ old.state
 
 -- a transaction was made and its request goes out; or memory was wanting
-abbrev pub Requests : {E : Type 0} → Work → Work → Result OpenTransaction E → OpenTransaction → (OpenTransaction → Work) → Type 0
+abbrev pub Requests : {E : Type 0} → Work → Work → Result OpenTransaction E → OpenTransaction → (OpenTransaction → Work)
+    → Type 0
 Requests old new (Ok t) made row = (t ≡ made) × (new ≡ row made)
 Requests old new (Err e) made row = new.state ≡ old.state
+
+-- which refusal is want of memory
+abbrev pub wants_memory : SmStepRefusal → Bool
+wants_memory Memory = true
+wants_memory (NoSuchSession psi) = false
+wants_memory (SessionThere psi) = false
+wants_memory (WrongState word) = false
+wants_memory (Qos fault) = false
+wants_memory (NoPti last) = false
 
 -- a command was worked on or refused as its row says; or memory was wanting. After a refusal what is kept is as it was.
 abbrev pub Commands : Work → Work → Result Unit SmStepRefusal → Result Work SmStepRefusal → Type 0
 Commands old new (Ok done) row = row ≡ Ok new
-Commands old new (Err Memory) row = new.state ≡ old.state
-Commands old new (Err (NoSuchSession psi)) row = (row ≡ Err (NoSuchSession psi)) × (new.state ≡ old.state)
-Commands old new (Err (SessionThere psi)) row = (row ≡ Err (SessionThere psi)) × (new.state ≡ old.state)
-Commands old new (Err (WrongState word)) row = (row ≡ Err (WrongState word)) × (new.state ≡ old.state)
-Commands old new (Err (Qos fault)) row = (row ≡ Err (Qos fault)) × (new.state ≡ old.state)
-Commands old new (Err (NoPti last)) row = (row ≡ Err (NoPti last)) × (new.state ≡ old.state)
+Commands old new (Err refusal) row = RefusesAs wants_memory refusal row × (new.state ≡ old.state)
 
 -- QoS operations were applied, or refused with a cause; or memory was wanting
 abbrev pub GivesRules : Result (List QosRule) Unruled → Result (List QosRule) ℕ → Type 0

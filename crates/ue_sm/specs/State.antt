@@ -4,7 +4,8 @@ use Rattle.nas_timers.specs.Durations.{DurationParts}
 use Rattle.ue_sm.specs.declared.cells.Cell.{Cell}
 use Rattle.ue_sm.specs.declared.cells.Cell.TheVariants.{Inactive}
 
--- how long its timers run; the next identity of a transaction, 255 where 254, the last one, was used; and the sessions 1 to 15 in order
+-- how long its timers run; the next identity of a transaction, 255 where 254, the last one,
+-- was used; and the sessions 1 to 15 in order
 pub record SmState : Type 0 where
   pub durations : DurationParts
   pub next : ℕ

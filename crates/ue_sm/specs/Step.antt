@@ -1,14 +1,15 @@
 -- One step of a handset's sessions: what comes in, by its row, and what goes out.
 use Rattle.std.specs.Prelude.{◌≡◌, ℕ, List, [], Result, Ok, Err}
+use Rattle.nas_base.specs.Outcomes.{RefusesAs}
 use Rattle.ue_sm.specs.Commands.{commanded}
 use Rattle.ue_sm.specs.Delivery.{delivered}
 use Rattle.ue_sm.specs.Mobility.{left_by, not_forwarded, renewed}
+use Rattle.ue_sm.specs.Outcome.{wants_memory}
 use Rattle.ue_sm.specs.State.{SmState}
 use Rattle.ue_sm.specs.Timers.{expired}
 use Rattle.ue_sm.specs.declared.inputs.SmInput.{SmInput}
 use Rattle.ue_sm.specs.declared.inputs.SmInput.TheVariants.{Command, Frame, NotForwarded, Expired, NewContext, Abandon, Clear, Keep}
 use Rattle.ue_sm.specs.declared.inputs.SmStepRefusal.{SmStepRefusal}
-use Rattle.ue_sm.specs.declared.inputs.SmStepRefusal.TheVariants.{NoSuchSession, SessionThere, WrongState, Qos, NoPti, Memory}
 use Rattle.ue_sm.specs.declared.mobility.Ending.TheVariants as ending
 use Rattle.ue_sm.specs.declared.outs.SmOut.{SmOut}
 use Rattle.ue_sm.specs.declared.work.Work.{Work}
@@ -41,11 +42,7 @@ abbrev pub step_of : SmState → ℕ → SmInput → Result Stepped SmStepRefusa
 step_of s now input = finished (worked input (started s now))
 
 -- what a step answered: the new state and what goes out; or the state as it was, with the refusal
-abbrev pub Steps : SmState → Result (SmState × List SmOut) (SmState × SmStepRefusal) → Result Stepped SmStepRefusal → Type 0
+abbrev pub Steps : SmState → Result (SmState × List SmOut) (SmState × SmStepRefusal) → Result Stepped SmStepRefusal
+    → Type 0
 Steps old (Ok (new, outs)) step = step ≡ Ok (record { state = new; outs = outs })
-Steps old (Err (new, Memory)) step = new ≡ old
-Steps old (Err (new, NoSuchSession psi)) step = (new ≡ old) × (step ≡ Err (NoSuchSession psi))
-Steps old (Err (new, SessionThere psi)) step = (new ≡ old) × (step ≡ Err (SessionThere psi))
-Steps old (Err (new, WrongState word)) step = (new ≡ old) × (step ≡ Err (WrongState word))
-Steps old (Err (new, Qos fault)) step = (new ≡ old) × (step ≡ Err (Qos fault))
-Steps old (Err (new, NoPti last)) step = (new ≡ old) × (step ≡ Err (NoPti last))
+Steps old (Err (new, refusal)) step = (new ≡ old) × RefusesAs wants_memory refusal step

@@ -86,7 +86,8 @@ names_sessions Abandon = true
 names_sessions Clear = true
 names_sessions (Keep held) = true
 
--- A transaction's timer runs exactly while the transaction is open: if for each session it was so before a step, what goes out leaves it so.
+-- A transaction's timer runs exactly while the transaction is open: if for each session it was so
+-- before a step, what goes out leaves it so.
 abbrev pub TimersRunWhileOpen : SmState → ℕ → SmInput → Type 0
 TimersRunWhileOpen s now input =
     (psi : ℕ) (new : Stepped) → is_psi psi ≡ true → step_of s now input ≡ Ok new

@@ -35,7 +35,8 @@ is_releasing (InactivePending held t) = true
 -- A request is sent again four times, under the same identity; at the fifth expiry its transaction ends.
 abbrev pub unheard : ℕ → TimerId → OpenTransaction → Work → Work
 unheard psi id t w =
-    when nat_lt t.sendings 5 then start id (send psi t (put psi (resent (cell psi w)) w)) else put psi (unanswered (cell psi w)) w
+    when nat_lt t.sendings 5 then start id (send psi t (put psi (resent (cell psi w)) w))
+    else put psi (unanswered (cell psi w)) w
 
 abbrev pub awaited : Bool → ℕ → TimerId → Work → Work
 awaited is_open psi id w =

@@ -1,13 +1,13 @@
--- What a handset has under way on a PDU session: a request that awaits its answer (TS 24.501 clause 6.1.3.2 and, of the identity of the
--- transaction, 6.3.1 and 9.6).
+-- What a handset has under way on a PDU session: a request that awaits its answer (TS 24.501 clause 6.1.3.2 and, of the
+-- identity of the transaction, 6.2.1 and 9.6).
 use Rattle.std.specs.Prelude.{◌≡◌, ◌≤◌, ◌+◌, ℕ, List, length, Option, Result, Ok, Err}
 use Rattle.sm_messages.specs.Messages.{sm_in, spelling}
 use Rattle.sm_messages.specs.declared.message.Sm.TheVariants as sm
 use Rattle.sm_messages.specs.declared.message.SmFrame.{SmFrame}
 use Rattle.sm_messages.specs.declared.message.SmRefusal.{SmRefusal}
 
--- the request, with the identity of the transaction in its head; the data network that its transport names, if any; and how often it was
--- sent
+-- the request, with the identity of the transaction in its head; the data network that its transport
+-- names, if any; and how often it was sent
 pub record OpenTransaction : Type 0 where
   pub request : SmFrame
   pub dnn : Option (List ℕ)
@@ -29,8 +29,8 @@ frame_read (Err refusal) = record { psi = 0; pti = 0; body = sm.PduSessionModifi
 unfoldable pub request_in : List ℕ → SmFrame
 request_in octets = frame_read (sm_in octets)
 
--- what is always so of them: they are spelled as their request is, the identity is the one in its head, and a request is sent five times
--- at most
+-- what is always so of them: they are spelled as their request is, the identity is the one in its head, and a request
+-- is sent five times at most
 pub record IsKept (octets : List ℕ) (pti sendings : ℕ) : Type 0 where
   pub spelled : octets ≡ spelling (request_in octets)
   pub short : length octets ≤ 4096

@@ -48,7 +48,8 @@ stopped psi w = per (timer_of psi (cell psi w)) w (λ (id : TimerId). stop id w)
 abbrev pub ended : ℕ → Cell → Work → Work
 ended psi new w = put psi new (stopped psi w)
 
--- A transaction begins: it has the next identity, which none after it has; its request is sent, and its timer runs (clause 6.3.1).
+-- A transaction begins: it has the next identity, which none after it has; its request is
+-- sent, and its timer runs (clause 6.2.1).
 abbrev pub request : ℕ → Option (List ℕ) → Sm → Work → OpenTransaction
 request psi dnn message w = opened (record { psi = psi; pti = w.state.next; body = message }) dnn
 

@@ -8,8 +8,8 @@ use crate::{SmCommand, SmInput, UeSm};
 use nas_base::Moment;
 use nas_timers::TimerId;
 
-/// A MODIFICATION COMMAND that is equal to the last that its session answered gets the same answer, and nothing changes (TS 24.501
-/// clause 6.3.2.3).
+/// In Active and Modification Pending a MODIFICATION COMMAND that is equal to the last that its session answered gets
+/// the same answer, and nothing changes (TS 24.501 clause 6.3.2.3).
 pub fn equal_command_is_answered_again(state: &UeSm, now: Moment, octets: &[u8])
     ensures { AnswersAgain state.now now octets.now }
 {}
@@ -19,7 +19,7 @@ pub fn command_is_ignored_while_releasing(state: &UeSm, now: Moment, octets: &[u
     ensures { IgnoresWhileReleasing state.now now octets.now }
 {}
 
-/// Before a context is taken into use, no identity is used by two transactions (TS 24.501 clause 6.3.1).
+/// Under one context no identity is used by two transactions (TS 24.501 clause 6.2.1).
 pub fn identities_are_used_once(state: &UeSm, now: Moment, input: &SmInput)
     ensures { UsesNewIdentities state.now now input.now }
 {}
@@ -29,8 +29,8 @@ pub fn message_changes_one_session(state: &UeSm, now: Moment, octets: &[u8])
     ensures { ChangesOneSession state.now now octets.now }
 {}
 
-/// The timer of a transaction, T3580, T3581 or T3582, runs exactly while the transaction is open: if for each session it was so before a
-/// step, what the step starts and stops leaves it so (TS 24.501 clause 10.3).
+/// The timer of a transaction, T3580, T3581 or T3582, runs exactly while the transaction is open: if for each session
+/// it was so before a step, what the step starts and stops leaves it so (TS 24.501 clause 10.3).
 pub fn timers_run_while_open(state: &UeSm, now: Moment, input: &SmInput)
     ensures { TimersRunWhileOpen state.now now input.now }
 {

@@ -1,5 +1,5 @@
-//! The sessions of a handset (5GSM): what it does at a command, at messages of the network, at a timer, and at what its mobility
-//! management tells (TS 24.501 clause 6). Time and octets are handed in; nothing here reads a clock.
+//! The sessions of a handset (5GSM): what it does at a command, at messages of the network, at a timer, and at what its
+//! mobility management tells (TS 24.501 clause 6). Time and octets are handed in; nothing here reads a clock.
 #![tactic(auto)]
 
 mod cells;

@@ -1,11 +1,8 @@
 //! The commands of the network.
-ghost use Rattle.std.specs.Prelude.{◌≡◌};
+ghost use Rattle.std.specs.Prelude.{◌≡◌, Ok, Err};
 ghost use Rattle.std.specs.Str.{bytes_eq};
-ghost use Rattle.ue_sm.specs.Cells.{completed, refused};
-ghost use Rattle.ue_sm.specs.NetworkCommands.{again, answer_with, is_same, is_same_ambr, is_same_cause, is_same_if_there, last_answered, last_of, message_of, mismatched, modification_commanded, release_commanded, rules_by, same_answer};
+ghost use Rattle.ue_sm.specs.NetworkCommands.{again, answer_with, applied_to, is_same, is_same_ambr, is_same_cause, is_same_if_there, last_answered, last_of, message_of, mismatched, modification_commanded, release_commanded, rules_by, same_answer};
 ghost use Rattle.ue_sm.specs.Outcome.{GivesRules, Works};
-ghost use Rattle.ue_sm.specs.Work.{cell, ended};
-ghost use Rattle.ue_sm.specs.declared.cells.Answer.TheVariants.{Complete, Refused};
 
 use crate::rules::{Unruled, ruled};
 use crate::work::Work;
@@ -189,7 +186,7 @@ impl Work {
         command: PduSessionModificationCommand,
         rules: Rules,
     ) -> Result<(), Memory>
-        ensures { Works self.old self.new result (answer_with psi pti Complete (ended psi (completed (last_of pti command Complete) rules (cell psi self.old)) self.old)) }
+        ensures { Works self.old self.new result (applied_to (Ok rules) psi pti command self.old) }
     {
         self.stop_timer(psi)?;
         self.answer(alloc, psi, pti, Answer::Complete)?;
@@ -209,7 +206,7 @@ impl Work {
         command: PduSessionModificationCommand,
         cause: u8,
     ) -> Result<(), Memory>
-        ensures { Works self.old self.new result (answer_with psi pti (Refused cause) (ended psi (refused (last_of pti command (Refused cause)) (cell psi self.old)) self.old)) }
+        ensures { Works self.old self.new result (applied_to (Err cause) psi pti command self.old) }
     {
         self.stop_timer(psi)?;
         self.answer(alloc, psi, pti, Answer::Refused(cause))?;

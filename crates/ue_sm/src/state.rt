@@ -13,8 +13,8 @@ use std::mem;
 // The number of sessions.
 const SESSIONS: usize = 15;
 
-/// The PDU sessions 1 to 15 of a handset (TS 24.501 clause 6.1.3.2), how long their timers run, and the next identity of a transaction,
-/// 255 where 254, the last one, was used. A session is found by its number.
+/// The PDU sessions 1 to 15 of a handset (TS 24.501 clause 6.1.3.2), how long their timers run, and the next identity
+/// of a transaction, 255 where 254, the last one, was used. A session is found by its number.
 #[derive(Drop)]
 pub struct UeSm {
     durations: Durations,

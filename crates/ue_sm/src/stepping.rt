@@ -12,10 +12,10 @@ use std::alloc::Global;
 ///
 /// # Errors
 ///
-/// Of commands alone, in this order: `NoSuchSession` exactly where the session to modify or to release is inactive; `SessionThere` exactly
-/// where the one to establish isn't; `WrongState` exactly where the one to modify or to release has a transaction open; `Qos` exactly where
-/// the operations don't apply to its rules; `NoPti` exactly where no identity is left for a transaction. Or `Memory`. The state is handed
-/// back as it was.
+/// Of commands alone, in this order: `NoSuchSession` exactly where the session to modify or to release is inactive;
+/// `SessionThere` exactly where the one to establish isn't; `WrongState` exactly where the one to modify or to release
+/// has a transaction open; `Qos` exactly where the operations don't apply to its rules; `NoPti` exactly where no
+/// identity is left for a transaction. Or `Memory`. The state is handed back as it was.
 pub fn step(
     alloc: Global,
     state: UeSm,

@@ -11,9 +11,9 @@ use sm_messages::laws::frame_is_read_back;
 use std::alloc::Global;
 use std::marker::Model;
 
-/// A request of the handset's that awaits its answer: the identity of the transaction, the octets of the request, which are made once and
-/// sent as they are each time, the data network that its transport names, if any, and how often it was sent. Its timer is that of the
-/// session's state (`timer_of` in specs/Cells.antt).
+/// A request of the handset's that awaits its answer: the identity of the transaction, the octets of the request, which
+/// are made once and sent as they are each time, the data network that its transport names, if any, and how often it
+/// was sent. Its timer is that of the session's state (`timer_of` in specs/Cells.antt).
 #[derive(Drop)]
 pub struct Transaction {
     pti: Pti,
@@ -39,7 +39,7 @@ impl Transaction {
     ///
     /// `Memory`.
     #[tactic(auto, using(crate::proofs::Requests::request_spelled))]
-    pub fn new(
+    pub(crate) fn new(
         alloc: Global,
         pti: Pti,
         request: &SmFrame,
@@ -89,7 +89,7 @@ impl Transaction {
     }
 
     /// The same, whose request was sent once more.
-    pub fn sent_again(self) -> Transaction
+    pub(crate) fn sent_again(self) -> Transaction
         requires { self.sendings < 5 }
         ensures { result ≡ sent_again self }
     {

@@ -1,4 +1,5 @@
-//! What becomes of a session: where its transaction begins, is sent again or ends, and where it answers a command of the network.
+//! What becomes of a session: where its transaction begins, is sent again or ends, and
+//! where it answers a command of the network.
 ghost use Rattle.std.specs.Prelude.{◌≡◌, ◌<◌, IfSome};
 ghost use Rattle.ue_sm.specs.Cells.{abandoned, active_unless_unknown, ambr_by, answering, awaiting_modification, awaiting_release, completed, modified, refused, rejected, resent, transaction_of, unanswered, with_answer};
 
@@ -108,7 +109,7 @@ impl Cell {
     }
 
     /// The request of the transaction that is open was sent once more.
-    pub fn resent(self) -> Cell
+    pub(crate) fn resent(self) -> Cell
         requires { IfSome (transaction_of self) (λ t. t.sendings < 5) }
         ensures { result ≡ resent self }
     {

@@ -13,8 +13,8 @@ use nas_timers::{TimerId, deadline_after};
 use sm_messages::{FiveGsmStatus, Sm, SmFrame};
 use std::alloc::Global;
 
-/// A step while it goes on: the moment that it was given, what is kept, and what goes out so far. What can want memory is done before
-/// anything that is kept changes.
+/// A step while it goes on: the moment that it was given, what is kept, and what goes out so far. What can want memory
+/// is done before anything that is kept changes.
 #[derive(Drop)]
 pub struct Work {
     pub moment: Moment,

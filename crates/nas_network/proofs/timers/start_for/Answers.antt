@@ -4,12 +4,12 @@ use Rattle.nas_network.specs.State.{SubscriberTimers, changed_for}
 use Rattle.nas_network.proofs.Changed.{changed_here}
 use Rattle.nas_network.proofs.timers.start_for.Goals as goal
 
-pub returns-then-eq : goal.returns-then-eq
-returns-then-eq c =
+pub returns-then-is_same_supi : goal.returns-then-is_same_supi
+returns-then-is_same_supi c =
     let subscriber : SubscriberTimers = record { supi = c.subscriber.inside.supi; timers = c.subscriber.inside.timers } in
     ap (λ (ts : List Running). set c.loop-subscriber.timers c.loop-subscriber.subscriber-index (record { supi = c.subscriber.inside.supi; timers = ts }))
     c.start.ensures
     ∙ (changed_here c.args.supi.now (started c.args.id c.args.at) c.loop-subscriber.subscriber-index c.loop-subscriber.timers subscriber _
     (omega (arith, c.loop-subscriber-test.true, ap length c.loop-subscriber.invariant.same))
-    c.subscriber.view_is (sym c.eq.ensures ∙ c.if-eq.true) c.loop-subscriber.invariant.told
+    c.subscriber.view_is (sym c.is_same_supi.ensures ∙ c.if-is_same_supi.true) c.loop-subscriber.invariant.told
     ∙ ap (changed_for c.args.supi.now (started c.args.id c.args.at)) c.loop-subscriber.invariant.same)

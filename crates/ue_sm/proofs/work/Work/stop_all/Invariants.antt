@@ -5,4 +5,5 @@ use Rattle.ue_sm.proofs.work.Work.stop_all.Given as goal
 
 -- the timers of the sessions before this one are stopped, and what is kept is as it was
 abbrev pub invariant-loop-number : goal.invariant-loop-number
-invariant-loop-number l = (l.self ≡ each (stop_one l.ending) (l.number - 1) l.initial.self) × (l.self.state ≡ l.initial.self.state)
+invariant-loop-number l =
+    (l.self ≡ each (stop_one l.ending) (l.number - 1) l.initial.self) × (l.self.state ≡ l.initial.self.state)

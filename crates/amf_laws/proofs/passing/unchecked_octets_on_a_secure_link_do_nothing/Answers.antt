@@ -1,8 +1,0 @@
-use Rattle.std.proofs.Common.{arith}
-use Rattle.amf_laws.proofs.UncheckedLaws.{unchecked_do_nothing}
-use Rattle.amf_laws.proofs.passing.unchecked_octets_on_a_secure_link_do_nothing.Goals as goal
-
-pub returns : goal.returns
-returns c =
-    unchecked_do_nothing c.args.amf.now c.args.home.now c.args.now c.args.rand.now c.args.link c.args.octets.now
-    (omega (arith, c.type_inv.octets 6))

@@ -1,0 +1,5 @@
+pub mod Framing
+pub mod Heads
+pub mod Laws
+pub mod Lengths
+pub mod Opening
