@@ -7,6 +7,7 @@ pub mod Identities
 pub mod Moves
 pub mod Places
 pub mod Requests
+pub mod StatusLemmas
 pub mod Staying
 pub mod StepLaws
 pub mod Stops
@@ -14,3 +15,4 @@ pub mod TimerCommands
 pub mod TimerLaw
 pub mod TimerRows
 pub mod TimerSteps
+pub mod TimersNamed
