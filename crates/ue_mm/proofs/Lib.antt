@@ -11,5 +11,6 @@ pub mod RowTools
 pub mod StepLaws
 pub mod StopLaws
 pub mod Summary
+pub mod TimerLaws
 pub mod ToldRows
 pub mod UncheckedLaws

@@ -186,6 +186,27 @@ abbrev pub TimersHaveOwners : MmState → UeInput → Result Stepped StepRefusal
 TimersHaveOwners s input (Ok new) = HaveOwners s input new
 TimersHaveOwners s input (Err refusal) = Unit {0}
 
+-- The timers of 5GMM at a handset (TS 24.501 table 10.2.1). A step starts and stops these alone, and none of a PDU session.
+abbrev pub is_of_mobility : TimerId → Bool
+is_of_mobility T3510 = true
+is_of_mobility T3516 = true
+is_of_mobility T3517 = true
+is_of_mobility T3521 = true
+is_of_mobility _ = false
+
+abbrev pub TimesMobility : UeOut → Type 0
+TimesMobility (Start id at) = is_of_mobility id ≡ true
+TimesMobility (Stop id) = is_of_mobility id ≡ true
+TimesMobility _ = Unit {0}
+
+abbrev pub AllTimeMobility : List UeOut → Type 0
+AllTimeMobility [] = Unit {0}
+AllTimeMobility (out ∷ outs) = TimesMobility out × AllTimeMobility outs
+
+abbrev pub TimesMobilityAlone : Result Stepped StepRefusal → Type 0
+TimesMobilityAlone (Ok new) = AllTimeMobility new.outs
+TimesMobilityAlone (Err refusal) = Unit {0}
+
 -- the messages that are sent, in order: whether each is fresh
 abbrev pub sent : List UeOut → List Bool
 sent [] = []

@@ -1,5 +1,5 @@
 //! What holds of every state and of all that comes in. These functions do nothing: their contracts are the laws.
-ghost use Rattle.ue_mm.specs.Laws.{MessagesFit, OpensWherePassing, PlainDoByKind, PlainSecuresNothing, SendsOneAtMost, TimersHaveOwners, UncheckedDoNothing};
+ghost use Rattle.ue_mm.specs.Laws.{MessagesFit, OpensWherePassing, PlainDoByKind, PlainSecuresNothing, SendsOneAtMost, TimersHaveOwners, TimesMobilityAlone, UncheckedDoNothing};
 ghost use Rattle.ue_mm.specs.State.{state_of};
 ghost use Rattle.ue_mm.specs.Step.{step_of};
 ghost use Rattle.ue_mm.specs.declared.inputs.UeInput.TheVariants.{Delivered};
@@ -38,6 +38,11 @@ pub fn plain_octets_secure_nothing(state: &UeMm, now: Moment, held: &Status, oct
 /// procedure that it leaves, unless that is the one that expired (TS 24.501 clause 10.2).
 pub fn timers_have_owners(state: &UeMm, now: Moment, held: &Status, input: &UeInput)
     ensures { TimersHaveOwners (state_of state.now) input.now (step_of (state_of state.now) now held.now input.now) }
+{}
+
+/// A step starts and stops timers of 5GMM alone, and none of a PDU session: T3510, T3516, T3517 and T3521 (TS 24.501 table 10.2.1).
+pub fn step_times_mobility_alone(state: &UeMm, now: Moment, held: &Status, input: &UeInput)
+    ensures { TimesMobilityAlone (step_of (state_of state.now) now held.now input.now) }
 {}
 
 /// A step sends one message at most, and one that is the first of its connection only where there was no connection.
