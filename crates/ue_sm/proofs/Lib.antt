@@ -7,6 +7,7 @@ pub mod Identities
 pub mod Moves
 pub mod Places
 pub mod Requests
+pub mod SessionCount
 pub mod StatusLemmas
 pub mod Staying
 pub mod StepLaws
