@@ -1,5 +1,5 @@
 -- Which timers of procedures and of transactions run at a handset (TS 24.501 clauses 10.2 and 10.3).
-use Rattle.std.specs.Prelude.{◌≡◌, is_some, ℕ, true, List, length}
+use Rattle.std.specs.Prelude.{◌≡◌, is_some, ℕ, Bool, true, List, length}
 use Rattle.nas_base.specs.Values.{is_psi}
 use Rattle.nas_timers.specs.Timers as timers
 use Rattle.nas_timers.specs.Timers.{deadline_of}
@@ -9,6 +9,8 @@ use Rattle.ue_mm.specs.declared.inputs.UeInput.{UeInput}
 use Rattle.ue_sm.specs.State.{cell_of}
 use Rattle.ue_sm.specs.TimerLaws as sessions
 use Rattle.nas_handset.specs.State.{HandsetState}
+use Rattle.nas_handset.specs.declared.command.UeCommand.{UeCommand}
+use Rattle.nas_handset.specs.declared.command.UeCommand.TheVariants.{Register, Service, Deregister, Establish, Modify, Release}
 
 -- those of 5GMM's three that have a deadline, and those of a session's three
 abbrev pub running_of : List timers.Running → Running
@@ -35,3 +37,12 @@ pub record HaveOwners (h : HandsetState) : Type 0 where
 -- an input that isn't the expiry of a timer
 abbrev pub IsNoExpiry : UeInput → Type 0
 IsNoExpiry input = (r : Running) → running_at input r ≡ r
+
+-- Commands to sessions name one: every value of their type does.
+abbrev pub names_session : UeCommand → Bool
+names_session (Register kind) = true
+names_session Service = true
+names_session (Deregister switch_off) = true
+names_session (Establish psi kind dnn) = is_psi psi
+names_session (Modify psi ops) = is_psi psi
+names_session (Release psi) = is_psi psi

@@ -1,3 +1,4 @@
+pub mod CarryLaws
 pub mod DeliveryRows
 pub mod EventRows
 pub mod Fits

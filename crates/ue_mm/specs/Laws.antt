@@ -224,6 +224,16 @@ abbrev pub SendsOneAtMost : MmState → Result Stepped StepRefusal → Type 0
 SendsOneAtMost s (Ok new) = AreOneAtMost s.common.connected (sent new.outs)
 SendsOneAtMost s (Err refusal) = Unit {0}
 
+-- A message of a session that is carried is sent, or isn't: nothing else goes out, and what is open stays.
+abbrev pub AreSends : List UeOut → Type 0
+AreSends [] = Unit {0}
+AreSends (Send fresh octets pass ∷ outs) = AreSends outs
+AreSends (_ ∷ outs) = ⊥
+
+abbrev pub SendsAlone : MmState → Result Stepped StepRefusal → Type 0
+SendsAlone s (Ok new) = AreSends new.outs × (new.state.phase ≡ s.phase)
+SendsAlone s (Err refusal) = ⊥
+
 -- a message that goes out has 4,096 octets at most, and so each that a step sends (clause 9.1.1)
 abbrev pub Fits : UeOut → Type 0
 Fits (Send fresh octets pass) = length octets ≤ 4096
