@@ -1,5 +1,5 @@
 -- Whom timers and records are kept for.
-use Rattle.std.proofs.Common.{◌≡◌, ◌∙◌, ap, refl, ℕ, Bool, true, false, List, [], ◌∷◌, None, Some, if◌then◌else◌}
+use Rattle.std.proofs.Common.{◌≡◌, ◌∙◌, ap, refl, sym, ℕ, Bool, true, false, List, [], ◌∷◌, None, Some, if◌then◌else◌}
 use Rattle.std.specs.Str.{bytes_eq}
 use Rattle.nas_timers.specs.Timers.{Running}
 use Rattle.amf_core.specs.State.{subscriber_in}
@@ -7,26 +7,31 @@ use Rattle.amf_core.specs.declared.subscriber.Record.{Record}
 use Rattle.amf_laws.proofs.Records.{are_equal}
 use Rattle.amf_laws.specs.Kept.{supis}
 use Rattle.nas_network.specs.Owners.{timed}
-use Rattle.nas_network.specs.State.{SubscriberTimers, changed_for, timers_of}
+use Rattle.nas_network.specs.State.{SubscriberTimers, changed_for, is_timed, timers_of}
 
 abbrev pub is_one_of : List ℕ → List (List ℕ) → Bool
 is_one_of x [] = false
 is_one_of x (y ∷ ys) = if bytes_eq y x then true else is_one_of x ys
 
+-- timers are kept for those whom they are kept for
+pub timed_is : (x : List ℕ) (ss : List SubscriberTimers) → is_timed x ss ≡ is_one_of x (timed ss)
+timed_is x [] = refl
+timed_is x (s ∷ ss) = ap (λ (rest : Bool). if bytes_eq s.supi x then true else rest) (timed_is x ss)
+
 -- a change is one of the timers of its SUPI
-own_changes : (x : List ℕ) (change : List Running → List Running) (ss : List SubscriberTimers) → is_one_of x (timed ss) ≡ true
+own_changes : (x : List ℕ) (change : List Running → List Running) (ss : List SubscriberTimers) → is_timed x ss ≡ true
     → timers_of x (changed_for x change ss) ≡ change (timers_of x ss)
 own_changes x change [] there = absurd (cc there)
 own_changes x change (s ∷ ss) there = by_test (bytes_eq s.supi x) refl there (own_changes x change ss) where
-  by_test : (b : Bool) → bytes_eq s.supi x ≡ b → (if b then true else is_one_of x (timed ss)) ≡ true
-      → (is_one_of x (timed ss) ≡ true → timers_of x (changed_for x change ss) ≡ change (timers_of x ss))
+  by_test : (b : Bool) → bytes_eq s.supi x ≡ b → (if b then true else is_timed x ss) ≡ true
+      → (is_timed x ss ≡ true → timers_of x (changed_for x change ss) ≡ change (timers_of x ss))
       → timers_of x (if b then record s { timers = change s.timers } ∷ ss else s ∷ changed_for x change ss)
       ≡ change (if b then s.timers else timers_of x ss)
   by_test true is h rest = rw is refl
   by_test false is h rest = rw is (rest h)
 
 pub own_change : (x supi : List ℕ) (change : List Running → List Running) (ss : List SubscriberTimers) → bytes_eq supi x ≡ true
-    → is_one_of x (timed ss) ≡ true → timers_of x (changed_for supi change ss) ≡ change (timers_of x ss)
+    → is_timed x ss ≡ true → timers_of x (changed_for supi change ss) ≡ change (timers_of x ss)
 own_change x supi change ss is there =
     ap (λ (y : List ℕ). timers_of x (changed_for y change ss)) (are_equal supi x is) ∙ own_changes x change ss there
 
@@ -50,11 +55,16 @@ timed_stay supi change (s ∷ ss) = by_test (bytes_eq s.supi supi) (timed_stay s
   by_test true rest = refl
   by_test false rest = ap (λ (ys : List (List ℕ)). s.supi ∷ ys) rest
 
+pub changed_timed : (x supi : List ℕ) (change : List Running → List Running) (ss : List SubscriberTimers)
+    → is_timed x (changed_for supi change ss) ≡ is_timed x ss
+changed_timed x supi change ss =
+    timed_is x (changed_for supi change ss) ∙ ap (is_one_of x) (timed_stay supi change ss) ∙ sym (timed_is x ss)
+
 -- of any other SUPI no timers are kept, and no record
-pub no_timers_of : (x : List ℕ) (ss : List SubscriberTimers) → is_one_of x (timed ss) ≡ false → timers_of x ss ≡ []
-no_timers_of x [] none = refl
-no_timers_of x (s ∷ ss) none = by_test (bytes_eq s.supi x) none (no_timers_of x ss) where
-  by_test : (b : Bool) → (if b then true else is_one_of x (timed ss)) ≡ false → (is_one_of x (timed ss) ≡ false → timers_of x ss ≡ [])
+pub none_of : (x : List ℕ) (ss : List SubscriberTimers) → is_timed x ss ≡ false → timers_of x ss ≡ []
+none_of x [] none = refl
+none_of x (s ∷ ss) none = by_test (bytes_eq s.supi x) none (none_of x ss) where
+  by_test : (b : Bool) → (if b then true else is_timed x ss) ≡ false → (is_timed x ss ≡ false → timers_of x ss ≡ [])
       → (if b then s.timers else timers_of x ss) ≡ []
   by_test true h rest = absurd (cc h)
   by_test false h rest = rest h
