@@ -374,8 +374,10 @@ impl Handset {
 
     // The turn in which nothing happens.
     fn untouched(&self, alloc: Global) -> (HandsetTurn, Delivery)
-        ensures { ended (taken_over result.0 self.now) result.1 ≡ begun self.now }
+        ensures value { ended (taken_over result.0 self.now) result.1 ≡ begun self.now }
+        ensures owned { HaveOwners (taken_over result.0 self.now) }
     {
+        let _moment = self.moment;
         let turning = Turning::begin(alloc, self, self.moment);
         turning.end()
     }
