@@ -14,7 +14,14 @@ const NETWORK: &str = "00101:020040:1:2:000001:06:6000:6000:6000:6000";
 
 // What follows the SUPI of each subscriber: K and OPc of TS 35.208 test set 1, and the sequence number before its own.
 const KEYS: &str =
-    "465b5ce8b199b49faa5f0a2ee238a6bc:cd63cb71954a9f4e48a5994e37a02baf:b9b9:ff9bb4d0b606:0101";
+    "465b5ce8b199b49faa5f0a2ee238a6bc:cd63cb71954a9f4e48a5994e37a02baf:b9b9:ff9bb4d0b606:08696e7465726e6574:0101";
+
+// Its pool, T3591 and T3592, its AMBR, and that no data network is listed by its addresses.
+const POOLS: &str = "0a2d0002:250";
+
+const SESSIONS: &str = "16000:16000";
+
+const AMBR: &str = "0603e80603e8";
 
 // The link of the handset.
 const LINK: u16 = 1;
@@ -113,5 +120,8 @@ fn net_config(alloc: Global, subscribers: u32) -> Result<NetConfig, Refusal> {
         let subscriber = word(format!(in alloc; "0010100000{number:05}:{KEYS}"))?;
         push(&mut line, subscriber.as_str())?;
     }
-    read_config(alloc, NETWORK, line.as_str())
+    read_config(
+        alloc,
+        &[NETWORK, POOLS, SESSIONS, AMBR, "none", line.as_str()],
+    )
 }
