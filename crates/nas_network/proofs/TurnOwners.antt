@@ -35,7 +35,7 @@ use Rattle.nas_network.proofs.SmfOwners.{SmfBegins, smf_owned}
 abbrev pub IsNoSmfExpiry : SmfInput → Type 0
 IsNoSmfExpiry input = (psi : ℕ) (r : Running) → running_at psi input r ≡ r
 
-smf_begins : (supi : List ℕ) (input : SmfInput) (t : Turn) → IsNoSmfExpiry input → HaveOwners t.network → SmfBegins supi input t
+pub smf_begins : (supi : List ℕ) (input : SmfInput) (t : Turn) → IsNoSmfExpiry input → HaveOwners t.network → SmfBegins supi input t
 smf_begins supi input t none owned = record {
   placed = owned.placed;
   own = λ psi is. owned.commands supi psi is ∙ sym (none psi _);
@@ -78,7 +78,7 @@ ask_names asks.Switched named = refl
 ask_names asks.ReleaseAll named = refl
 ask_names (asks.KeepOnly status) named = refl
 
-abbrev AllNamed : List SmfCall → Type 0
+abbrev pub AllNamed : List SmfCall → Type 0
 AllNamed [] = Unit {0}
 AllNamed (ask ∷ list) = (names_session ask.call ≡ true) × AllNamed list
 
