@@ -1,7 +1,6 @@
 -- What is taken over of an event leaves the timers of the procedures and of the commands that are open.
 use Rattle.std.proofs.Common.{◌≡◌, refl, subst, sym, ℕ, Bool, true, false, List, Option, None, Some, Result, Ok, Err}
 use Rattle.nas_base.specs.Branches.{chosen, per}
-use Rattle.nas_base.specs.Values.{is_psi}
 use Rattle.amf_core.specs.State.{view_in}
 use Rattle.amf_core.specs.Step.{Stepped}
 use Rattle.amf_core.specs.declared.inputs.AmfInput.{AmfInput}
@@ -14,7 +13,7 @@ use Rattle.smf_core.specs.declared.inputs.SmfInput.{SmfInput}
 use Rattle.smf_core.specs.declared.inputs.SmfInput.TheVariants as smf_inputs
 use Rattle.smf_core.specs.declared.inputs.SmfRefusal.{SmfRefusal}
 use Rattle.nas_network.specs.Network.{amf_commanded, answered, commanded, outcome, smf_commanded, smf_commanded_in, smf_outcome, takes_commands}
-use Rattle.nas_network.specs.Owners.{HaveOwners, IsNoExpiry}
+use Rattle.nas_network.specs.Owners.{HaveOwners, IsNoExpiry, names_identity}
 use Rattle.nas_network.specs.State.{NetworkState}
 use Rattle.nas_network.specs.TakingOver.{TurnChanges, taken_over}
 use Rattle.nas_network.specs.Turns.{Turn, begun, onto, smf_onto, smf_stepped, stepped, turned}
@@ -68,14 +67,6 @@ unfolding per
 smf_owned_for rand supi input old new delivery None seen none named is owned = absurd (cc is)
 smf_owned_for rand supi input old new delivery (Some v) seen none named is owned =
     smf_owned_in rand supi input old new delivery v (takes_commands v) seen none named is owned
-
--- a command names an identity, if any
-abbrev pub names_identity : NetCommand → Bool
-names_identity (Authenticate supi) = true
-names_identity (Deregister supi) = true
-names_identity (Update supi) = true
-names_identity (Modify supi psi ops ambr) = is_psi psi
-names_identity (Release supi psi) = is_psi psi
 
 pub followed_command : (rand : List ℕ) (command : NetCommand) (n : NetworkState) (l : TurnChanges) (delivery : NetDelivery) → names_identity command ≡ true
     → HaveOwners n → commanded rand command n ≡ Ok (answered (taken_over l n) delivery) → HaveOwners (taken_over l n)

@@ -14,6 +14,8 @@ use Rattle.smf_core.specs.Sessions.{AreSessions}
 use Rattle.smf_core.specs.State.{SmfState, cell_of}
 use Rattle.smf_core.specs.TimerLaws as smf
 use Rattle.nas_network.specs.State.{NetworkState, SubscriberTimers, timers_of}
+use Rattle.nas_network.specs.declared.command.NetCommand.{NetCommand}
+use Rattle.nas_network.specs.declared.command.NetCommand.TheVariants.{Authenticate, Deregister, Update, Modify, Release}
 
 -- those of the four that have a deadline
 abbrev pub running_of : List timers.Running → Running
@@ -77,3 +79,11 @@ pub record HaveOwners (n : NetworkState) : Type 0 where
 -- an input that isn't the expiry of a timer
 abbrev pub IsNoExpiry : AmfInput → Type 0
 IsNoExpiry input = (running : List ℕ → Running) (supi : List ℕ) → expired_by input running supi ≡ running supi
+
+-- an identity that a command names is one
+abbrev pub names_identity : NetCommand → Bool
+names_identity (Authenticate supi) = true
+names_identity (Deregister supi) = true
+names_identity (Update supi) = true
+names_identity (Modify supi psi ops ambr) = is_psi psi
+names_identity (Release supi psi) = is_psi psi
