@@ -144,7 +144,8 @@ timer_goes_out own out s other f same h =
     record { smaller = record {
       running = smaller.running;
       started = smaller.started;
-      sent = within_unless own _ other.sent (subst (λ (n : Sent). IsWithin _ n) same smaller.sent);
+      sent = within_unless own (summed_outs (f.outs ++ out ∷ []) s).sent other.sent
+          (subst (λ (n : Sent). IsWithin (summed_outs (f.outs ++ out ∷ []) s).sent n) same smaller.sent);
     } }
 
 act_goes_out : (supi : List ℕ) (act : Act) (s other : Summary) (f : Framed) → GoesOut s other f
