@@ -296,7 +296,7 @@ session_expired : (id : TimerId) (t : Turn) → is_name id ≡ true → ((r : Ru
     → HaveOwners t.handset → HaveOwners (sessions_turned (inputs.Expired id) (untimed id t)).handset
 session_expired id t named apart owned =
     let kept = sessions_kept (inputs.Expired id) (untimed id t) tt named owned.fifteen
-        (λ psi is. session_stops psi id t.handset.timers ∙ ap (sessions.with_timer psi id false) (owned.transactions psi is)) in
+    (λ psi is. session_stops psi id t.handset.timers ∙ ap (sessions.with_timer psi id false) (owned.transactions psi is)) in
     record {
       fifteen = kept.fifteen;
       procedures = kept.procedures ∙ stops id t.handset.timers ∙ apart (running_of t.handset.timers) ∙ owned.procedures

@@ -251,11 +251,7 @@ impl Handset {
 
     // The turn of a command while it goes on: a command is 5GMM's or the sessions'.
     #[tactic(auto, unfolding(crate::specs::Handset::commanded))]
-    fn commanding(
-        &self,
-        alloc: Global,
-        command: &UeCommand,
-    ) -> Result<Turning<'_>, CommandRefusal>
+    fn commanding(&self, alloc: Global, command: &UeCommand) -> Result<Turning<'_>, CommandRefusal>
         ensures { CommandsTurning self.now result (commanded command.now self.now) }
     {
         match command {

@@ -86,8 +86,10 @@ some_time w new h some = moves_time some.session w some.named h some.moves
 requests_time : (n : ℕ) (id : TimerId) (t : OpenTransaction) (w : Work) → is_of_session id ≡ true → TimesAlone w
     → TimesAlone (start id (send n t w))
 requests_time n id t w is h =
-    record { outs = out_more (send n t w).outs (Start id (deadline_after w.moment (duration_of id w.state.durations)))
-    (out_more w.outs (Carry n t.dnn (spelling t.request)) h.outs tt) is }
+    record {
+      outs = out_more (send n t w).outs (Start id (deadline_after w.moment (duration_of id w.state.durations)))
+          (out_more w.outs (Carry n t.dnn (spelling t.request)) h.outs tt) is;
+    }
 
 begun_times : (n : ℕ) (id : TimerId) (c : Cell) (t : OpenTransaction) (w : Work) → is_of_session id ≡ true → TimesAlone w
     → TimesAlone (begun n id c t w)
