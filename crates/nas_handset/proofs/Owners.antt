@@ -1,5 +1,5 @@
 -- The timer of a procedure, and that of a transaction, runs exactly while it is open.
-use Rattle.std.proofs.Common.{◌≡◌, ◌∙◌, ◌^◌, ℕ, List, [], ◌∷◌, length, Bool, true, false, not, Option, Some, Result, Ok, Err, refl, sym, ap, subst}
+use Rattle.std.proofs.Common.{◌≡◌, ◌∙◌, ◌^◌, ℕ, List, [], ◌∷◌, length, true, false, not, Option, Some, Result, Ok, Err, refl, sym, ap, subst}
 use Rattle.nas_base.proofs.Branching.{when_holds}
 use Rattle.nas_base.specs.Values.{is_psi}
 use Rattle.nas_timers.specs.Names.{is_name}
@@ -12,7 +12,7 @@ use Rattle.ue_mm.proofs.CarryLaws.{carrying_sends_alone}
 use Rattle.ue_mm.proofs.StepLaws.{timers_have_owners}
 use Rattle.ue_mm.proofs.TimerLaws.{times_mobility}
 use Rattle.ue_mm.specs.Commands.{is_spent}
-use Rattle.ue_mm.specs.Laws.{AllTimeMobility, AreSends, Running, SendsAlone, TimersHaveOwners, TimesMobility, TimesMobilityAlone, running_after, running_at, running_in, running_with, with_timer}
+use Rattle.ue_mm.specs.Laws.{AllTimeMobility, AreSends, Running, SendsAlone, TimersHaveOwners, TimesMobility, TimesMobilityAlone, running_after, running_at, running_in, with_timer}
 use Rattle.ue_mm.specs.State.{view_of, word_of}
 use Rattle.ue_mm.specs.Step.{Stepped}
 use Rattle.ue_mm.specs.Step as mm_step
@@ -21,7 +21,7 @@ use Rattle.ue_mm.specs.declared.inputs.MmCommand.TheVariants as mm
 use Rattle.ue_mm.specs.declared.inputs.StepRefusal.{StepRefusal}
 use Rattle.ue_mm.specs.declared.inputs.StepRefusal.TheVariants as refusals
 use Rattle.ue_mm.specs.declared.inputs.UeInput.{UeInput}
-use Rattle.ue_mm.specs.declared.inputs.UeInput.TheVariants.{Command, Delivered, Expired, Dropped, Restart, Carry}
+use Rattle.ue_mm.specs.declared.inputs.UeInput.TheVariants.{Command, Expired, Restart, Carry}
 use Rattle.ue_mm.specs.declared.outs.UeOut.{UeOut}
 use Rattle.ue_mm.specs.declared.outs.UeOut.TheVariants as outs
 use Rattle.ue_sm.proofs.SessionCount.{sessions_stay_fifteen}
@@ -38,12 +38,12 @@ use Rattle.ue_sm.specs.declared.inputs.SmInput.TheVariants as inputs
 use Rattle.ue_sm.specs.declared.inputs.SmStepRefusal.{SmStepRefusal}
 use Rattle.ue_sm.specs.declared.outs.SmOut.{SmOut}
 use Rattle.ue_sm.specs.declared.outs.SmOut.TheVariants as sm_outs
-use Rattle.nas_handset.specs.Handset.{commanded, ended, may_begin_sessions, mm_commanded, mm_outcome, refusal_of, restarted, sessions_commanded, sessions_outcome}
+use Rattle.nas_handset.specs.Handset.{commanded, ended, may_begin_sessions, mm_commanded, mm_outcome, restarted, sessions_commanded, sessions_outcome}
 use Rattle.nas_handset.specs.Owners.{HaveOwners, IsNoExpiry, names_session, running_of, session_running_of}
 use Rattle.nas_handset.specs.State.{HandsetState}
 use Rattle.nas_handset.specs.TakingOver.{FollowsCommand, TurnChanges, taken_over}
 use Rattle.nas_handset.specs.Ticks.{expired, fired, is_due}
-use Rattle.nas_handset.specs.Turns.{Turn, all_passed_on, all_taken, all_taken_of_sessions, begun, carried, carried_onto, onto, passed_on, sent, sessions_onto, sessions_stepped, sessions_turned, stepped, taken_of_session, timed, turned, untimed, with_mm, with_sm}
+use Rattle.nas_handset.specs.Turns.{Turn, all_passed_on, all_taken, all_taken_of_sessions, begun, carried, carried_onto, onto, passed_on, sent, sessions_onto, sessions_stepped, sessions_turned, stepped, timed, turned, untimed, with_mm, with_sm}
 use Rattle.nas_handset.specs.declared.command.CommandRefusal.{CommandRefusal}
 use Rattle.nas_handset.specs.declared.command.CommandRefusal.TheVariants.{WrongState, Spent}
 use Rattle.nas_handset.specs.declared.command.UeCommand.{UeCommand}

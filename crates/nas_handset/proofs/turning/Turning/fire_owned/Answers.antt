@@ -1,4 +1,3 @@
-use Rattle.nas_handset.specs.Owners.{HaveOwners}
 use Rattle.nas_handset.proofs.Owners.{fired_owned}
 use Rattle.nas_handset.proofs.turning.Turning.fire_owned.Goals as goal
 
