@@ -1,8 +1,8 @@
 -- A step starts and stops timers of the sessions' transactions alone.
-use Rattle.std.proofs.Common.{◌≡◌, ◌≤◌, refl, subst, sym, arith, ℕ, zero, suc, Bool, true, List, [], ◌∷◌, ◌++◌, Some, None, Option, Result, Ok, Err}
+use Rattle.std.proofs.Common.{◌≡◌, ◌≤◌, subst, arith, ℕ, zero, suc, Bool, true, List, [], ◌∷◌, ◌++◌, Some, None, Result, Ok, Err}
 use Rattle.std.specs.Prelude.{◌==◌, nat_lt}
 use Rattle.nas_base.proofs.Branching.{per_holds, when_holds}
-use Rattle.nas_base.specs.Branches.{per, when◌then◌else◌}
+use Rattle.nas_base.specs.Branches.{per}
 use Rattle.nas_base.specs.Values.{is_psi}
 use Rattle.nas_qos.specs.Applying.{all_applied}
 use Rattle.nas_qos.specs.Operations.{Operation}
