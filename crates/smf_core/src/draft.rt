@@ -129,12 +129,14 @@ impl<'a> Draft<'a> {
     {
         let _number = psi.0;
         let before = self.before;
-        let Some(subscriber) = before.subscriber(supi) else {
-            return false;
-        };
-        subscriber.cells.whole();
-        let cells = self.changes.cells.as_slice();
-        newest(supi, psi, cells, subscriber.cells.at(psi)).held.is_some()
+        match before.subscriber(supi) {
+            Some(subscriber) => {
+                subscriber.cells.whole();
+                let cells = self.changes.cells.as_slice();
+                newest(supi, psi, cells, subscriber.cells.at(psi)).held.is_some()
+            }
+            None => false,
+        }
     }
 
     /// What the steps changed.
