@@ -6,6 +6,7 @@ pub mod Holders
 pub mod InputRows
 pub mod Moves
 pub mod OthersLaws
+pub mod OwnOuts
 pub mod OwnTimers
 pub mod Places
 pub mod RequestLaws

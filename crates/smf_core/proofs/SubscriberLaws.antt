@@ -10,7 +10,6 @@ use Rattle.smf_core.specs.State.{SmfState, put_cell, with_cell}
 use Rattle.smf_core.specs.Step.{Stepped, ended, finished, started, worked}
 use Rattle.smf_core.specs.Work.{Working}
 use Rattle.smf_core.specs.declared.cell.Cell.{Cell}
-use Rattle.smf_core.specs.declared.inputs.SmfInput.{SmfInput}
 use Rattle.smf_core.specs.declared.inputs.SmfRefusal.{SmfRefusal}
 use Rattle.smf_core.specs.declared.subscriber.Subscriber.{Subscriber}
 

@@ -97,6 +97,24 @@ SessionsStay =
     → names_one input ≡ true
     → IfOk (step_of smf now supi input) (λ s. AreSessions s.smf)
 
+-- A message that goes down is of a session that has an identity.
+abbrev pub NamesSession : SmfOut → Type 0
+NamesSession (outs.Down psi frame) = is_psi psi ≡ true
+NamesSession outs.Fence = Unit {0}
+NamesSession (outs.Start id at) = Unit {0}
+NamesSession (outs.Stop id) = Unit {0}
+
+abbrev pub NameSessions : List SmfOut → Type 0
+NameSessions [] = Unit {0}
+NameSessions (out ∷ said) = NamesSession out × NameSessions said
+
+abbrev pub MessagesNameSessions : Type 0
+MessagesNameSessions =
+    (smf : SmfState) (now : ℕ) (supi : List ℕ) (input : SmfInput) (new : Stepped)
+    → AreSessions smf → is_subscriber supi smf ≡ true → names_one input ≡ true
+    → step_of smf now supi input ≡ Ok new
+    → NameSessions new.outs
+
 -- A step keeps whom the SMF has, in their order.
 abbrev pub supis : List Subscriber → List (List ℕ)
 supis [] = []

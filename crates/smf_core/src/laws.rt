@@ -1,6 +1,6 @@
 //! What holds of every step of an SMF. These functions do nothing: their contracts are the laws.
 ghost use Rattle.nas_qos.specs.Rules.{IsRules};
-ghost use Rattle.smf_core.specs.Laws.{OthersStay, RepeatedRequestsMakeNoSession, SessionsStay, SettlingSessionsTakeNoModification, SubscribersStay};
+ghost use Rattle.smf_core.specs.Laws.{MessagesNameSessions, OthersStay, RepeatedRequestsMakeNoSession, SessionsStay, SettlingSessionsTakeNoModification, SubscribersStay};
 ghost use Rattle.smf_core.specs.TimerLaws.{TimersAreOfCommands, TimersRunWhileOpen};
 
 use crate::NetSession;
@@ -38,6 +38,11 @@ pub fn timers_run_while_open()
 /// A step starts and stops no timers but T3591 and T3592, of sessions with an identity, 1 to 15.
 pub fn timers_are_of_commands()
     ensures { TimersAreOfCommands }
+{}
+
+/// Each message that goes down is under an identity of a session, 1 to 15.
+pub fn messages_name_sessions()
+    ensures { MessagesNameSessions }
 {}
 
 /// A step keeps whom the SMF has, in their order.
