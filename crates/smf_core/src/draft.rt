@@ -132,8 +132,9 @@ impl<'a> Draft<'a> {
         match before.subscriber(supi) {
             Some(subscriber) => {
                 subscriber.cells.whole();
-                let cells = self.changes.cells.as_slice();
-                newest(supi, psi, cells, subscriber.cells.at(psi)).held.is_some()
+                let changes = &self.changes;
+                changes.names_identities();
+                changes.by_now(supi, psi, subscriber.cells.at(psi)).held.is_some()
             }
             None => false,
         }

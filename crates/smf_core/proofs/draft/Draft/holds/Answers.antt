@@ -14,7 +14,6 @@ pub returns-in-Some : goal.returns-in-Some
 returns-in-Some c =
     let found : subscriber_in c.args.supi.now c.self.inside.before.now.subscribers ≡ Some c.in-Some.subscriber.now =
     found_as _ _ _ _ c.subscriber.ensures c.in-Some.is in
-    let its = cell_changed c.args.supi.now c.args.psi c.self-inside.inside.cells.items c.self-inside.inside.pools c.self.inside.before.now
-    c.in-Some.subscriber.now found c.whole.ensures (rw (← c.psi.view_is) c.psi.invariant) c.self-inside.invariant in
-    rw (← c.self.view_is, ← c.self-inside.view_is)
-    (rw (c.is_some.ensures, c.newest.ensures, c.as_slice-cells.ensures.value, c.at.ensures) (ap (λ (x : Cell). is_some x.held) (sym its)))
+    let its = cell_changed c.args.supi.now c.args.psi c.self.inside.changes.cells c.self.inside.changes.pools c.self.inside.before.now
+    c.in-Some.subscriber.now found c.whole.ensures (rw (← c.psi.view_is) c.psi.invariant) c.names_identities.ensures in
+    rw (← c.self.view_is) (rw (c.is_some.ensures, c.by_now.ensures, c.at.ensures) (ap (λ (x : Cell). is_some x.held) (sym its)))
