@@ -207,6 +207,7 @@ fn give_to(pools: &mut Pools, address: &Address)
 
 impl<'a> Work<'a> {
     /// A step at its start, on what steps before it left.
+    #[tactic(auto, using(crate::proofs::Drafting::subscriber_changed))]
     pub fn new(alloc: Global, draft: Draft<'a>, now: Moment, supi: &Supi) -> Work<'a>
         requires { is_subscriber supi.now draft.smf ≡ true }
         ensures { result ≡ record { work = started draft.entry.smf now supi.now; before = draft.entry.before } }
