@@ -47,12 +47,7 @@ fn is_at(change: &ChangedCell, supi: &Supi, psi: Psi) -> bool
 }
 
 /// The cell of a subscriber's identity after these changes. It walks over them.
-pub fn newest<'b>(
-    supi: &Supi,
-    psi: Psi,
-    changed: &'b [ChangedCell],
-    kept: &'b Cell,
-) -> &'b Cell
+pub fn newest<'b>(supi: &Supi, psi: Psi, changed: &'b [ChangedCell], kept: &'b Cell) -> &'b Cell
     ensures { result.now ≡ newest supi.now psi changed.now kept.now }
 {
     match changed {

@@ -134,7 +134,10 @@ impl<'a> Draft<'a> {
                 subscriber.cells.whole();
                 let changes = &self.changes;
                 changes.names_identities();
-                changes.by_now(supi, psi, subscriber.cells.at(psi)).held.is_some()
+                changes
+                    .by_now(supi, psi, subscriber.cells.at(psi))
+                    .held
+                    .is_some()
             }
             None => false,
         }
@@ -270,7 +273,12 @@ impl<'a> Work<'a> {
     {
         let _number = psi.0;
         let subscriber = self.subscriber;
-        newest(&self.supi, psi, self.cells.as_slice(), subscriber.cells.at(psi))
+        newest(
+            &self.supi,
+            psi,
+            self.cells.as_slice(),
+            subscriber.cells.at(psi),
+        )
     }
 
     /// Another cell takes its place.

@@ -1,4 +1,4 @@
-use Rattle.std.proofs.Common.{◌≡◌, ◌∙◌, sym, ap, is_some, Some}
+use Rattle.std.proofs.Common.{◌≡◌, sym, ap, is_some, Some}
 use Rattle.smf_core.proofs.Drafting.{cell_changed, found_as, found_none, none_held_by_now}
 use Rattle.smf_core.specs.State.{subscriber_in}
 use Rattle.smf_core.specs.declared.cell.Cell.{Cell}
