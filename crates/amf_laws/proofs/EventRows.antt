@@ -30,7 +30,7 @@ use Rattle.nas_base.proofs.Branching.{per_holds, when_holds}
 use Rattle.amf_laws.proofs.ChallengeRows.{challenge_next_settles, challenge_put_moves, challenge_settles, ended_moves, say_on_moves}
 use Rattle.amf_laws.proofs.Moves.{Beginning, Own, Moves, Settled, settled, told_as}
 use Rattle.amf_laws.proofs.Moves.Moves.{asked, starts, puts}
-use Rattle.amf_laws.proofs.RegistrationRows.{deregistration_put_moves}
+use Rattle.amf_laws.proofs.RegistrationRows.{deregistration_put_moves, unregistered_own}
 use Rattle.amf_laws.proofs.UpdateRows.{update_offered_moves, update_put_moves}
 use Rattle.amf_laws.specs.Timers.{Running, none_runs, running_in, with_timer}
 
@@ -58,7 +58,7 @@ deregistering_settles : {May : List ℕ → Type 0} {b : Beginning} {q : Running
     → Moves May b none_runs q w → Settled May b (deregistering_expired d s w)
 deregistering_settles {May} {b} {q} {w} d s e h =
     when_holds (λ (x : Work). Settled May b x) (is_left d.sendings) _ _
-    (λ _. settled (deregistration_put_moves _ s e h)) (λ _. settled (asked _ s refl e (puts (unregistered s) e h)))
+    (λ _. settled (deregistration_put_moves _ s e h)) (λ _. settled (asked _ s refl e (puts (unregistered s) (unregistered_own May b s e) h)))
 
 of_challenge_settles : {May : List ℕ → Type 0} {b : Beginning} {w : Work} (procedure : Procedure) (s : Record) → Own May b s
     → Moves May b (with_timer T3560 false (running_in procedure)) (running_in procedure) w → Settled May b (of_challenge procedure s w)

@@ -28,7 +28,7 @@ use Rattle.amf_core.specs.declared.outs.AmfOut.TheVariants.{Send, Passed, Smf, S
 use Rattle.amf_core.specs.declared.subscriber.Record.{Record}
 use Rattle.amf_laws.proofs.Chains.{Chain, Received}
 use Rattle.amf_laws.proofs.Chains.Chain.{nothing, speaks, waits, passes, does}
-use Rattle.amf_laws.proofs.KeptLaws.{any_have}
+use Rattle.amf_laws.proofs.RecordLaws.{any_have}
 use Rattle.amf_laws.proofs.Moves.{Beginning, Moves}
 use Rattle.amf_laws.proofs.Moves.Moves.{here, said, asked, starts, stops, puts, links, homes, numbers}
 use Rattle.amf_laws.proofs.PassedLaws.{IsAtStart, pass_told}

@@ -151,7 +151,7 @@ comes_stays May x a w not_x (chains u at_start h) = record {
   acts = chain_for May (start_for May a u.first at_start) h;
 }
 comes_stays May x a w not_x (settles b s one done) = record {
-  found = other_stays x (ap (λ (y : List ℕ). bytes_eq y x) one.supi ∙ other_than May x s.supi not_x one.may) done.moves
+  found = other_stays x (ap (λ (y : Record). bytes_eq y.supi x) one.is ∙ other_than May x s.supi not_x one.may) done.moves
       ∙ start_stays x a b.first one.at_start;
   acts = moves_for May (start_for May a b.first one.at_start) done.moves;
 }

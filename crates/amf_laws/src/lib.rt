@@ -1,12 +1,14 @@
 //! What holds of every step of an AMF (`amf_core`). These functions do nothing: their contracts are the laws.
 #![tactic(auto)]
 
+mod consistency;
 mod kept;
 mod lengths;
 mod others;
 mod passing;
 mod timers;
 
+pub use crate::consistency::records_stay_consistent;
 pub use crate::kept::{kept_lists_have_two_at_most, same_subscribers_are_kept};
 pub use crate::lengths::messages_have_4096_octets_at_most;
 pub use crate::others::other_subscribers_stay;
