@@ -1,7 +1,6 @@
 -- What goes out of a step starts and stops timers of procedures alone, names sessions 1 to 15, and is of subscribers that are kept.
-use Rattle.std.proofs.Common.{◌≡◌, refl, sym, ap, subst, ◌∙◌, inl, inr, ℕ, Bool, true, false, List, [], ◌∷◌, ◌++◌, Result, Ok, Err, if◌then◌else◌, Some, ◌⊎◌}
+use Rattle.std.proofs.Common.{◌≡◌, refl, sym, subst, ◌∙◌, ℕ, true, List, [], ◌∷◌, ◌++◌, Result, Ok, Err}
 use Rattle.std.specs.Prelude.{is_some}
-use Rattle.std.specs.Str.{bytes_eq}
 use Rattle.milenage.specs.Home.{HomeRecord}
 use Rattle.nas_security.specs.declared.sends.Pass.{Pass}
 use Rattle.nas_security.specs.declared.sends.Send.{Send}

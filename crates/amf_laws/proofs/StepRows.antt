@@ -1,31 +1,24 @@
 -- What the row of each input comes to, with the subscribers that may have one.
-use Rattle.std.proofs.Common.{◌≡◌, refl, sym, ap, subst, ◌∙◌, ℕ, false, List, [], ◌∷◌, Option, Some, Result, Ok, Err}
+use Rattle.std.proofs.Common.{◌≡◌, refl, sym, subst, ℕ, false, List, Option, Some, Result, Ok, Err}
 use Rattle.nas_base.specs.Branches.{per}
 use Rattle.nas_timers.specs.declared.timer_id.TimerId.{TimerId}
 use Rattle.milenage.specs.Home.{HomeRecord}
 use Rattle.amf_core.specs.Commands.{authenticate, authenticated, deregister, left, update, updated}
 use Rattle.amf_core.specs.Delivery.{freshened}
 use Rattle.amf_core.specs.Events.{carried_down, dropped, expired, fenced, fenced_of, link_lost_of, lost_for, of_supi, sessions_told, sessions_told_of}
-use Rattle.amf_core.specs.Framing.{Framed, framed, framed_all}
-use Rattle.amf_core.specs.State.{AmfState, has_supi, is_same_link, link_in, unused}
+use Rattle.amf_core.specs.State.{AmfState, has_supi, link_in, unused}
 use Rattle.amf_core.specs.Step.{started, worked}
 use Rattle.amf_core.specs.Transport.{brought_down}
 use Rattle.amf_core.specs.Work.{Work, link_of, put_link, subscriber}
-use Rattle.amf_core.specs.declared.acts.Act.{Act}
-use Rattle.amf_core.specs.declared.acts.Act.TheVariants.{Say, Tell}
-use Rattle.amf_core.specs.declared.acts.Protection.{Protection}
 use Rattle.amf_core.specs.declared.inputs.AmfInput.{AmfInput}
 use Rattle.amf_core.specs.declared.inputs.AmfInput.TheVariants.{Uplink, Expired, Authenticate, Deregister, Update, Fence, Sessions, Down, Dropped}
 use Rattle.amf_core.specs.declared.inputs.AmfRefusal.{AmfRefusal}
-use Rattle.amf_core.specs.declared.link.Link.{Link}
 use Rattle.amf_core.specs.declared.subscriber.Record.{Record}
 use Rattle.amf_laws.proofs.AnswerRows.{brought_down_moves}
 use Rattle.nas_base.proofs.Branching.{per_holds}
 use Rattle.amf_laws.proofs.Chains.{Chain, Received, kept_now}
 use Rattle.amf_laws.proofs.DeliveryRows.{MayReceive, received_chain}
 use Rattle.amf_laws.proofs.EventRows.{SettledBy, authenticated_settles, expired_settles, fenced_settles, left_settles, lost_settles, sessions_settle, updated_settles}
-use Rattle.amf_laws.proofs.FramedFit.{Sends, says_send}
-use Rattle.amf_laws.proofs.FramedFit.Sends.{unsent, goes, counts}
 use Rattle.amf_laws.proofs.Moves.{Beginning, Settled, begins, settled}
 use Rattle.amf_laws.proofs.Moves.Moves.{here}
 use Rattle.amf_laws.proofs.PassedLaws.{IsAtStart, freshened_at_start}

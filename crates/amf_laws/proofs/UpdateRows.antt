@@ -1,5 +1,5 @@
 -- The moves of a new 5G-GUTI without a registration.
-use Rattle.std.proofs.Common.{refl, ◌≡◌, ℕ, true, List, [], ◌∷◌, arith}
+use Rattle.std.proofs.Common.{refl, ℕ, true, List, [], ◌∷◌, arith}
 use Rattle.nas_timers.specs.declared.timer_id.TimerId.TheVariants.{T3555}
 use Rattle.nas_elements.specs.declared.guti.Guti.{Guti}
 use Rattle.nas_security.specs.declared.challenges.Challenge.{Challenge}
