@@ -152,8 +152,8 @@ pub mode_completed_settles : {May : List ℕ → Type 0} {b : Beginning} {w : Wo
 unfolding mode_completed
 mode_completed_settles {May} {b} {w} m number s e h =
     per_holds (λ (x : Work). Settled May b x) (commanding_of s.procedure) w _ (λ _. settled h)
-    (λ o _. purpose_settles o.challenging.purpose (whole_in m.message s) number o.context (in_use o.context s) (used_own May b o.context s e) refl
-    (switched_moves o s e h))
+    (λ o _. purpose_settles o.challenging.purpose (whole_in m.message s) number o.context (in_use o.context s)
+    (used_own May b o.context s e) refl (switched_moves o s e h))
 
 -- a session of a 5GSM message is 1 to 15
 psi_is : (m n : ℕ) → psi_from m ≡ Some n → is_psi n ≡ true

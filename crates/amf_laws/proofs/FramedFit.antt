@@ -59,7 +59,8 @@ ciphered_sends {f} supi number message s is found =
     (λ context _. when_holds (λ (g : Framed). Sends (Ciphered supi) f g) (is_unsent message context Down) f _ (λ _. unsent)
     (λ _. goes number _ _
     (counts s (record s { in_use = Some (counted context Down) })
-    (record { supi = refl; runs = refl; kept = refl; consistent = λ whole. (λ registered. (refl, (whole.0 registered).1), whole.1) }) is found unsent)))
+    (record { supi = refl; runs = refl; kept = refl; consistent = λ whole. (λ registered. (refl, (whole.0 registered).1), whole.1) })
+    is found unsent)))
 
 -- under the context that is commanded
 pub commanded_runs : (procedure : Procedure) (o : Commanding) → commanding_of procedure ≡ Some o → running_in procedure ≡ challenge_runs

@@ -74,11 +74,13 @@ offered_moves : {May : List ℕ → Type 0} {b : Beginning} {q : Running} {w : W
 offered_moves {May} {b} {q} {w} number r whole challenge s e used h =
     let a : Accepting = record { request = r; guti = new_guti (config_of w) (tmsi_of w); status = told_sessions whole s; sendings = 1 } in
     let new : Record = opened_acceptance a whole.guti challenge s in
-    let own : Own May b new = (e.0, λ few. kept_with_few whole.guti a.guti s.kept, e.2, λ is. (λ registered. (used, refl), λ completed. absurd (cc))) in
+    let own : Own May b new =
+    (e.0, λ few. kept_with_few whole.guti a.guti s.kept, e.2, λ is. (λ registered. (used, refl), λ completed. absurd (cc))) in
     starts T3550 new refl own (said number (Ciphered s.supi) _ e.2 (puts new own (numbers h)))
 
 pub goes_on_settles : {May : List ℕ → Type 0} {b : Beginning} {w : Work} (number : ℕ) (r : Request) (whole : Whole) (context : SecurityContext) (s : Record)
-    → Own May b s → is_some s.in_use ≡ true → Moves May b none_runs none_runs w → Settled May b (registration_goes_on number r whole context s w)
+    → Own May b s → is_some s.in_use ≡ true → Moves May b none_runs none_runs w
+    → Settled May b (registration_goes_on number r whole context s w)
 unfolding registration_goes_on
 goes_on_settles {May} {b} {w} number r whole context s e used h =
     when_holds (λ (x : Work). Settled May b x) (nat_lt (tmsi_of (released whole s w)) (2 ^ 32)) _ _

@@ -3,7 +3,7 @@ use Rattle.std.proofs.Common.{◌≡◌, refl, sym, subst, ℕ, false, List, Opt
 use Rattle.nas_base.specs.Branches.{per}
 use Rattle.nas_timers.specs.declared.timer_id.TimerId.{TimerId}
 use Rattle.milenage.specs.Home.{HomeRecord}
-use Rattle.amf_core.specs.Commands.{authenticate, authenticated, deregister, left, update, updated}
+use Rattle.amf_core.specs.Commands.{authenticate, authenticated, deregister, left, update, update_begun}
 use Rattle.amf_core.specs.Delivery.{freshened}
 use Rattle.amf_core.specs.Events.{carried_down, dropped, expired, fenced, fenced_of, link_lost_of, lost_for, of_supi, sessions_told, sessions_told_of}
 use Rattle.amf_core.specs.State.{AmfState, has_supi, link_in, unused}
@@ -18,7 +18,7 @@ use Rattle.amf_laws.proofs.AnswerRows.{brought_down_moves}
 use Rattle.nas_base.proofs.Branching.{per_holds}
 use Rattle.amf_laws.proofs.Chains.{Chain, Received, kept_now}
 use Rattle.amf_laws.proofs.DeliveryRows.{MayReceive, received_chain}
-use Rattle.amf_laws.proofs.EventRows.{SettledBy, authenticated_settles, expired_settles, fenced_settles, left_settles, lost_settles, sessions_settle, updated_settles}
+use Rattle.amf_laws.proofs.EventRows.{SettledBy, authenticated_settles, expired_settles, fenced_settles, left_settles, lost_settles, sessions_settle, update_begun_settles}
 use Rattle.amf_laws.proofs.Moves.{Beginning, Settled, begins, settled}
 use Rattle.amf_laws.proofs.Moves.Moves.{here}
 use Rattle.amf_laws.proofs.PassedLaws.{IsAtStart, freshened_at_start}
@@ -130,8 +130,8 @@ input_comes May a home now rand (Deregister supi) may =
     (λ s m. left_settles {May = May} {b = begins s (started a home now rand)} {q = running_in s.procedure} {w = started a home now rand} s
     (refl, λ few. few, m, λ is. is) here)
 input_comes May a home now rand (Update supi) may =
-    of_supi_comes_by May a supi updated _ (started a home now rand) (at_first a home now rand) may
-    (λ s m. updated_settles {May = May} {b = begins s (started a home now rand)} {q = running_in s.procedure} {w = started a home now rand} s
+    of_supi_comes_by May a supi update_begun _ (started a home now rand) (at_first a home now rand) may
+    (λ s m. update_begun_settles {May = May} {b = begins s (started a home now rand)} {q = running_in s.procedure} {w = started a home now rand} s
     (refl, λ few. few, m, λ is. is) here)
 input_comes May a home now rand (Fence supi) may =
     of_supi_comes May a supi fenced_of (started a home now rand) (at_first a home now rand) may

@@ -5,7 +5,7 @@ use Rattle.nas_base.specs.Branches.{per}
 use Rattle.nas_timers.specs.declared.timer_id.TimerId.{TimerId}
 use Rattle.nas_timers.specs.declared.timer_id.TimerId.TheVariants.{T3510, T3516, T3517, T3521, T3522, T3550, T3555, T3560, T3580, T3581, T3582, T3591, T3592}
 use Rattle.milenage.specs.Home.{HomeRecord}
-use Rattle.amf_core.specs.Commands.{authenticate, authenticated, deregister, left, update, updated}
+use Rattle.amf_core.specs.Commands.{authenticate, authenticated, deregister, left, update, update_begun}
 use Rattle.amf_core.specs.Delivery.{freshened, received}
 use Rattle.amf_core.specs.Events.{carried_down, dropped, expired, fenced, fenced_of, link_lost_of, lost_for, of_supi, sessions_told, sessions_told_of}
 use Rattle.amf_core.specs.Framing.{Framed}
@@ -21,7 +21,7 @@ use Rattle.amf_laws.proofs.AnswerRows.{brought_down_moves}
 use Rattle.nas_base.proofs.Branching.{per_holds, when_holds}
 use Rattle.amf_laws.proofs.Chains.{Chain, Received, found_before, kept_now}
 use Rattle.amf_laws.proofs.DeliveryRows.{MayReceive, received_chain}
-use Rattle.amf_laws.proofs.EventRows.{SettledBy, authenticated_settles, expired_settles, fenced_settles, left_settles, lost_settles, sessions_settle, updated_settles}
+use Rattle.amf_laws.proofs.EventRows.{SettledBy, authenticated_settles, expired_settles, fenced_settles, left_settles, lost_settles, sessions_settle, update_begun_settles}
 use Rattle.amf_laws.proofs.FitLaws.{Fits, IsBegun, chain_distinct, chain_fits, fit_begins, moves_distinct, settled_fits}
 use Rattle.amf_laws.proofs.FramedFit.{Leaves, acts_distinct, acts_leave}
 use Rattle.amf_laws.proofs.Moves.{Beginning, Settled, begins, settled}
@@ -178,8 +178,8 @@ input_left x running a home now rand (Deregister supi) distinct e =
     of_supi_left_by x (running x) supi left _ (started a home now rand) (begin x (running x) a home now rand distinct e)
     (λ s. left_settles {May = λ (y : List ℕ). Unit {0}} {b = begins s (started a home now rand)} {q = running_in s.procedure} {w = started a home now rand} s (refl, λ few. few, tt, λ is. is) here)
 input_left x running a home now rand (Update supi) distinct e =
-    of_supi_left_by x (running x) supi updated _ (started a home now rand) (begin x (running x) a home now rand distinct e)
-    (λ s. updated_settles {May = λ (y : List ℕ). Unit {0}} {b = begins s (started a home now rand)} {q = running_in s.procedure} {w = started a home now rand} s (refl, λ few. few, tt, λ is. is) here)
+    of_supi_left_by x (running x) supi update_begun _ (started a home now rand) (begin x (running x) a home now rand distinct e)
+    (λ s. update_begun_settles {May = λ (y : List ℕ). Unit {0}} {b = begins s (started a home now rand)} {q = running_in s.procedure} {w = started a home now rand} s (refl, λ few. few, tt, λ is. is) here)
 input_left x running a home now rand (Fence supi) distinct e =
     of_supi_left x (running x) supi fenced_of (started a home now rand) (begin x (running x) a home now rand distinct e)
     (λ s. fenced_settles s (refl, λ few. few, tt, λ is. is) here)
