@@ -405,3 +405,16 @@ pub followed_once : (input : UeInput) (h : HandsetState) (turn : TurnChanges) (d
     → turned input (begun h) ≡ ended (taken_over turn h) d → HaveOwners (taken_over turn h)
 followed_once input h turn d none owned follows =
     subst (λ (x : HandsetState). HaveOwners x) (ap (λ (t : Turn). t.handset) follows) (turned_owned input (begun h) none owned)
+
+pub followed_restart : (h : HandsetState) (turn : TurnChanges) → HaveOwners h → taken_over turn h ≡ (restarted h).handset
+    → HaveOwners (taken_over turn h)
+followed_restart h turn owned follows = subst (λ (x : HandsetState). HaveOwners x) (sym follows) (restarted_owned h owned)
+
+-- a turn that ended, and a handset at another moment
+pub ended_owned : (h : HandsetState) (turn : TurnChanges) (d : Delivery) (t : Turn) → HaveOwners t.handset → ended (taken_over turn h) d ≡ t
+    → HaveOwners (taken_over turn h)
+ended_owned h turn d t owned follows = subst (λ (x : HandsetState). HaveOwners x) (sym (ap (λ (x : Turn). x.handset) follows)) owned
+
+pub at_another_moment : (h : HandsetState) (now : ℕ) → HaveOwners h → HaveOwners (record h { moment = now })
+at_another_moment h now owned =
+    record { fifteen = owned.fifteen; procedures = owned.procedures; transactions = owned.transactions }

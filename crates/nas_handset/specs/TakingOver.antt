@@ -1,6 +1,6 @@
 -- A turn while it goes on, beside the handset that it began on, and what that handset becomes when it is taken over.
 use Rattle.std.specs.Prelude.{◌≡◌, ℕ, List, Option, unwrap_or, Result, Ok, Err}
-use Rattle.nas_base.specs.Outcomes.{RefusesAs, Unless}
+use Rattle.nas_base.specs.Outcomes.{RefusesAs}
 use Rattle.nas_security.specs.declared.sends.Send.{Send}
 use Rattle.nas_timers.specs.Timers.{Running}
 use Rattle.ue_mm.specs.Outcome as mm
@@ -38,20 +38,20 @@ abbrev pub Reaches : TurningState → TurningState → Result (List UeOut) StepR
 Reaches old new (Ok outs) step =
     (step ≡ Ok (record { state = new.turn.handset.mm; outs = outs }))
     × (new ≡ record old { turn = with_mm new.turn.handset.mm old.turn })
-Reaches old new (Err refusal) step = Unless (mm.wants_memory refusal) ((step ≡ Err refusal) × (new ≡ old))
+Reaches old new (Err refusal) step = RefusesAs mm.wants_memory refusal step × (new ≡ old)
 
 abbrev pub ReachesSessions :
     TurningState → TurningState → Result (List SmOut) SmStepRefusal → Result sm_step.Stepped SmStepRefusal → Type 0
 ReachesSessions old new (Ok outs) step =
     (step ≡ Ok (record { state = new.turn.handset.sm; outs = outs }))
     × (new ≡ record old { turn = with_sm new.turn.handset.sm old.turn })
-ReachesSessions old new (Err refusal) step = Unless (sm.wants_memory refusal) ((step ≡ Err refusal) × (new ≡ old))
+ReachesSessions old new (Err refusal) step = RefusesAs sm.wants_memory refusal step × (new ≡ old)
 
 -- the same with what goes out
 abbrev pub StepsOn : TurningState → TurningState → Result Unit StepRefusal → Result Stepped StepRefusal → Type 0
 StepsOn old new (Ok done) (Ok s) = new ≡ record old { turn = onto (Ok s) old.turn }
 StepsOn old new (Ok done) (Err refusal) = ⊥
-StepsOn old new (Err refusal) step = Unless (mm.wants_memory refusal) ((step ≡ Err refusal) × (new ≡ old))
+StepsOn old new (Err refusal) step = RefusesAs mm.wants_memory refusal step
 
 -- what a command comes to while it goes on, and where the handset takes it over
 abbrev pub CommandsTurning : HandsetState → Result TurningState CommandRefusal → Result Turn CommandRefusal → Type 0

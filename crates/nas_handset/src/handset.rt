@@ -1,7 +1,7 @@
 //! The handset.
-ghost use Rattle.std.specs.Prelude.{◌≡◌, [], None, max, option_map, IfOk, OnErr};
+ghost use Rattle.std.specs.Prelude.{◌≡◌, true, max, option_map, IfOk, OnErr};
 ghost use Rattle.nas_handset.specs.Handset.{Commands, commanded, delivered, dropped, ended, may_begin_sessions, mm_commanded, refusal_of, restarted, sessions_commanded};
-ghost use Rattle.nas_handset.specs.Owners.{HaveOwners, IsNoExpiry};
+ghost use Rattle.nas_handset.specs.Owners.{HaveOwners, IsNoExpiry, names_session};
 ghost use Rattle.nas_handset.specs.State.{first};
 ghost use Rattle.nas_handset.specs.TakingOver.{CommandsTurning, FollowsCommand, taken_over};
 ghost use Rattle.nas_handset.specs.Ticks.{ticked};
@@ -174,6 +174,7 @@ impl Handset {
         ensures owned { IfOk result (λ followed. HaveOwners (taken_over followed.0 self.now)) }
     {
         let _moment = self.moment;
+        session_is_named(command);
         match self.commanded_by(alloc, command) {
             Ok(followed) => Ok(followed),
             Err(refusal) => Err(refusal),
@@ -373,11 +374,25 @@ impl Handset {
 
     // The turn in which nothing happens.
     fn untouched(&self, alloc: Global) -> (HandsetTurn, Delivery)
-        ensures { ended (taken_over result.0 self.now) result.1 ≡ begun self.now }
+        ensures value { ended (taken_over result.0 self.now) result.1 ≡ begun self.now }
+        ensures owned { HaveOwners (taken_over result.0 self.now) }
     {
+        let _moment = self.moment;
         let turning = Turning::begin(alloc, self, self.moment);
         turning.end()
     }
+}
+
+// A command to a session has one that there is.
+fn session_is_named(command: &UeCommand)
+    ensures { names_session command.now ≡ true }
+{
+    let _session = match command {
+        UeCommand::Establish { psi, .. } => psi.0,
+        UeCommand::Modify { psi, .. } => psi.0,
+        UeCommand::Release { psi } => psi.0,
+        _ => 0,
+    };
 }
 
 // Whether a command to the sessions begins in a state.

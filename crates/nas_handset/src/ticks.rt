@@ -50,7 +50,10 @@ impl<'a> Turning<'a> {
         ensures owned { OnOk result (HaveOwners self.new.turn.handset) }
     {
         is_named(&id);
-        self.fire(alloc, id)
+        match self.fire(alloc, id) {
+            Ok(()) => Ok(()),
+            Err(Memory) => Err(Memory),
+        }
     }
 
     // The same, as far as it is said what comes of it.

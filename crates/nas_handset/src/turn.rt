@@ -1,7 +1,8 @@
 //! What a turn changed of a handset.
-ghost use Rattle.std.specs.Prelude.{◌≡◌};
+ghost use Rattle.std.specs.Prelude.{◌≡◌, option_map, unwrap_or};
 ghost use Rattle.nas_handset.specs.Owners.{HaveOwners};
 ghost use Rattle.nas_handset.specs.TakingOver.{taken_over};
+ghost use Rattle.ue_mm.specs.State.{state_of};
 
 use crate::Handset;
 use nas_base::Moment;
@@ -30,6 +31,24 @@ impl Model for HandsetTurn {
     ghost view = { λ t. record { mm = option_map state_of t.mm; sm = t.sm; timers = t.timers; moment = t.moment } };
 }
 
+// The mobility management becomes what it is by now, if it took a step.
+fn take_mm(kept: &mut UeMm, changed: Option<UeMm>)
+    ensures { state_of kept.new ≡ unwrap_or (option_map state_of changed) (state_of kept.old) }
+{
+    if let Some(changed) = changed {
+        *kept = changed;
+    }
+}
+
+// The sessions become what they are by now, if they took a step.
+fn take_sm(kept: &mut UeSm, changed: Option<UeSm>)
+    ensures { kept.new ≡ unwrap_or changed kept.old }
+{
+    if let Some(changed) = changed {
+        *kept = changed;
+    }
+}
+
 impl HandsetTurn {
     /// The handset that the turn was prepared on becomes what the turn came to. It takes no memory.
     pub fn take_over(self, handset: &mut Handset)
@@ -42,12 +61,8 @@ impl HandsetTurn {
             timers,
             moment,
         } = self;
-        if let Some(mm) = mm {
-            handset.mm = mm;
-        }
-        if let Some(sm) = sm {
-            handset.sm = sm;
-        }
+        take_mm(&mut handset.mm, mm);
+        take_sm(&mut handset.sm, sm);
         handset.timers = timers;
         handset.moment = moment;
     }

@@ -1,5 +1,5 @@
 //! A handset while it takes its steps.
-ghost use Rattle.std.specs.Prelude.{◌≡◌, unwrap_or, IfOk, OnOk};
+ghost use Rattle.std.specs.Prelude.{◌≡◌, unwrap_or, IfOk, OnErr, OnOk};
 ghost use Rattle.nas_handset.specs.Handset.{ended};
 ghost use Rattle.nas_handset.specs.TakingOver.{Reaches, ReachesSessions, StepsOn, taken_over};
 ghost use Rattle.nas_handset.specs.Turns.{all_passed_on, all_taken, all_taken_of_sessions, begun, carried, passed_on, sent, sessions_stepped, sessions_turned, stepped, taken, taken_of_session, timed, turned, untimed};
@@ -46,7 +46,8 @@ const LINK: u16 = 1;
 
 // The sessions as they are by now, to take a step.
 fn own_sessions(alloc: Global, changed: &mut Option<UeSm>, kept: &UeSm) -> Result<UeSm, Memory>
-    ensures { IfOk result (λ sm. sm ≡ unwrap_or changed.old kept.now) }
+    ensures ok { IfOk result (λ sm. sm ≡ unwrap_or changed.old kept.now) }
+    ensures err { OnErr result (changed.new ≡ changed.old) }
 {
     match changed.take() {
         Some(sm) => Ok(sm),
@@ -96,7 +97,7 @@ impl<'a> Turning<'a> {
         self.moment
     }
 
-    /// The deadline of a timer that runs.
+    /// The timers that run.
     pub fn timers(&self) -> &Timers
         ensures { result.now ≡ self.now.turn.handset.timers }
     {
@@ -359,8 +360,8 @@ impl<'a> Turning<'a> {
     pub fn turn(&mut self, alloc: Global, input: UeInput) -> Result<(), Memory>
         ensures { OnOk result (self.new ≡ record self.old { turn = turned input self.old.turn }) }
     {
-        match self.step(alloc, input) {
-            Ok(()) => Ok(()),
+        match self.reach(alloc, input) {
+            Ok(outs) => self.pass_all_on(alloc, outs),
             Err(StepRefusal::Memory) => Err(Memory),
             Err(StepRefusal::WrongState { state: _ }) => Ok(()),
             Err(StepRefusal::Spent { next: _ }) => Ok(()),
