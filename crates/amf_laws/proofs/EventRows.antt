@@ -45,7 +45,7 @@ accepting_settles : {May : List ℕ → Type 0} {b : Beginning} {q : Running} {w
     → Moves May b none_runs q w → Settled May b (accepting_expired a s w)
 accepting_settles {May} {b} {q} {w} a s e h =
     when_holds (λ (x : Work). Settled May b x) (is_left a.sendings) _ _
-    (λ _. settled (starts T3550 s e (say_on_moves s.link (Ciphered s.supi) _ e.2 (puts (record s { procedure = procedures.Accepting (acceptance_again a) }) e h))))
+    (λ _. settled (starts T3550 s refl e (say_on_moves s.link (Ciphered s.supi) _ e.2 (puts (record s { procedure = procedures.Accepting (acceptance_again a) }) e h))))
     (λ _. settled (puts (idle s) e h))
 
 updating_settles : {May : List ℕ → Type 0} {b : Beginning} {q : Running} {w : Work} (u : Updating) (s : Record) → Own May b s
@@ -58,7 +58,7 @@ deregistering_settles : {May : List ℕ → Type 0} {b : Beginning} {q : Running
     → Moves May b none_runs q w → Settled May b (deregistering_expired d s w)
 deregistering_settles {May} {b} {q} {w} d s e h =
     when_holds (λ (x : Work). Settled May b x) (is_left d.sendings) _ _
-    (λ _. settled (deregistration_put_moves _ s e h)) (λ _. settled (asked _ s (puts (unregistered s) e h)))
+    (λ _. settled (deregistration_put_moves _ s e h)) (λ _. settled (asked _ s refl e (puts (unregistered s) e h)))
 
 of_challenge_settles : {May : List ℕ → Type 0} {b : Beginning} {w : Work} (procedure : Procedure) (s : Record) → Own May b s
     → Moves May b (with_timer T3560 false (running_in procedure)) (running_in procedure) w → Settled May b (of_challenge procedure s w)

@@ -28,9 +28,9 @@ pub moves_some : (x : List ℕ) {May : List ℕ → Type 0} {b : Beginning} {p q
 unfolding put put_link
 moves_some x here = refl
 moves_some x (said number protection message may h) = moves_some x h
-moves_some x (asked call s h) = moves_some x h
-moves_some x (starts id s e h) = moves_some x h
-moves_some x (stops id s e h) = moves_some x h
+moves_some x (asked call s is e h) = moves_some x h
+moves_some x (starts id s is e h) = moves_some x h
+moves_some x (stops id s is e h) = moves_some x h
 moves_some x (puts s e h) = some_stays s x _ ∙ moves_some x h
 moves_some x (links number supi waiting h) = moves_some x h
 moves_some x (homes home h) = moves_some x h
@@ -41,9 +41,9 @@ pub moves_distinct : {May : List ℕ → Type 0} {b : Beginning} {p q : Running}
 unfolding put put_link
 moves_distinct begin here = begin
 moves_distinct begin (said number protection message may h) = moves_distinct begin h
-moves_distinct begin (asked call s h) = moves_distinct begin h
-moves_distinct begin (starts id s e h) = moves_distinct begin h
-moves_distinct begin (stops id s e h) = moves_distinct begin h
+moves_distinct begin (asked call s is e h) = moves_distinct begin h
+moves_distinct begin (starts id s is e h) = moves_distinct begin h
+moves_distinct begin (stops id s is e h) = moves_distinct begin h
 moves_distinct begin (puts s e h) = stay_distinct s _ (moves_distinct begin h)
 moves_distinct begin (links number supi waiting h) = moves_distinct begin h
 moves_distinct begin (homes home h) = moves_distinct begin h
@@ -55,9 +55,9 @@ pub other_stays : (x : List ℕ) {May : List ℕ → Type 0} {b : Beginning} {p 
 unfolding put put_link
 other_stays x other here = refl
 other_stays x other (said number protection message may h) = other_stays x other h
-other_stays x other (asked call s h) = other_stays x other h
-other_stays x other (starts id s e h) = other_stays x other h
-other_stays x other (stops id s e h) = other_stays x other h
+other_stays x other (asked call s is e h) = other_stays x other h
+other_stays x other (starts id s is e h) = other_stays x other h
+other_stays x other (stops id s is e h) = other_stays x other h
 other_stays x other (puts s e h) =
     other_is_found s x _ (ap (λ (y : List ℕ). bytes_eq y x) e.0 ∙ other) ∙ other_stays x other h
 other_stays x other (links number supi waiting h) = other_stays x other h
@@ -70,10 +70,10 @@ pub other_told : (x : List ℕ) (r : Running) {May : List ℕ → Type 0} {b : B
 unfolding put put_link
 other_told x r other here = refl
 other_told x r other (said number protection message may h) = rw acts_onto (other_told x r other h)
-other_told x r other (asked call s h) = rw acts_onto (other_told x r other h)
-other_told x r other (starts id s e h) =
+other_told x r other (asked call s is e h) = rw acts_onto (other_told x r other h)
+other_told x r other (starts id s is e h) =
     let not_it : bytes_eq s.supi x ≡ false = ap (λ (y : List ℕ). bytes_eq y x) e.0 ∙ other in rw (acts_onto, not_it) (other_told x r other h)
-other_told x r other (stops id s e h) =
+other_told x r other (stops id s is e h) =
     let not_it : bytes_eq s.supi x ≡ false = ap (λ (y : List ℕ). bytes_eq y x) e.0 ∙ other in rw (acts_onto, not_it) (other_told x r other h)
 other_told x r other (puts s e h) = other_told x r other h
 other_told x r other (links number supi waiting h) = other_told x r other h
@@ -86,11 +86,11 @@ pub own_told : (x : List ℕ) (r : Running) {May : List ℕ → Type 0} {b : Beg
 unfolding put put_link
 own_told x r own begin here = begin
 own_told x r own begin (said number protection message may h) = rw acts_onto (own_told x r own begin h)
-own_told x r own begin (asked call s h) = rw acts_onto (own_told x r own begin h)
-own_told x r own begin (starts id s e h) =
+own_told x r own begin (asked call s is e h) = rw acts_onto (own_told x r own begin h)
+own_told x r own begin (starts id s is e h) =
     let it : bytes_eq s.supi x ≡ true = ap (λ (y : List ℕ). bytes_eq y x) e.0 ∙ own in
     rw (acts_onto, it) (ap (λ (y : Running). with_timer id true y) (own_told x r own begin h))
-own_told x r own begin (stops id s e h) =
+own_told x r own begin (stops id s is e h) =
     let it : bytes_eq s.supi x ≡ true = ap (λ (y : List ℕ). bytes_eq y x) e.0 ∙ own in
     rw (acts_onto, it) (ap (λ (y : Running). with_timer id false y) (own_told x r own begin h))
 own_told x r own begin (puts s e h) = own_told x r own begin h
@@ -105,9 +105,9 @@ pub own_opened : (x : List ℕ) {May : List ℕ → Type 0} {b : Beginning} {p q
 unfolding put put_link
 own_opened x own kept begin here = begin
 own_opened x own kept begin (said number protection message may h) = own_opened x own kept begin h
-own_opened x own kept begin (asked call s h) = own_opened x own kept begin h
-own_opened x own kept begin (starts id s e h) = own_opened x own kept begin h
-own_opened x own kept begin (stops id s e h) = own_opened x own kept begin h
+own_opened x own kept begin (asked call s is e h) = own_opened x own kept begin h
+own_opened x own kept begin (starts id s is e h) = own_opened x own kept begin h
+own_opened x own kept begin (stops id s is e h) = own_opened x own kept begin h
 own_opened x own kept begin (puts s e h) =
     ap running_for
     (own_is_found s x _ (ap (λ (y : List ℕ). bytes_eq y x) e.0 ∙ own) (moves_some x h ∙ kept))
@@ -222,6 +222,15 @@ fit_begins x r s w is h = record {
 }
 
 -- a chain of rows
+pub chain_some : (x : List ℕ) {May : List ℕ → Type 0} {u : Received} {w : Work} → Chain May u w
+    → is_some (subscriber_in x (kept_now w)) ≡ is_some (subscriber_in x (kept_now u.first))
+unfolding put put_link
+chain_some x nothing = refl
+chain_some x (speaks number protection message may h) = chain_some x h
+chain_some x (waits number supi waiting h) = chain_some x h
+chain_some x (passes s p is may checked) = some_stays p.check.subscriber x _
+chain_some x (does s is may done h) = moves_some x done.moves ∙ chain_some x h
+
 pub chain_distinct : {May : List ℕ → Type 0} {u : Received} {w : Work} → AreDistinct (kept_now u.first) → Chain May u w → AreDistinct (kept_now w)
 unfolding put put_link
 chain_distinct begin nothing = begin

@@ -46,9 +46,9 @@ moves_few : {May : List ℕ → Type 0} {b : Beginning} {p q : Running} {w : Wor
 unfolding put put_link
 moves_few few begin here = begin
 moves_few few begin (said number protection message may h) = moves_few few begin h
-moves_few few begin (asked call s h) = moves_few few begin h
-moves_few few begin (starts id s e h) = moves_few few begin h
-moves_few few begin (stops id s e h) = moves_few few begin h
+moves_few few begin (asked call s is e h) = moves_few few begin h
+moves_few few begin (starts id s is e h) = moves_few few begin h
+moves_few few begin (stops id s is e h) = moves_few few begin h
 moves_few few begin (puts {p} {q} {w} s e h) =
     put_few s (kept_now w) (e.1 few) (moves_few few begin h)
 moves_few few begin (links number supi waiting h) = moves_few few begin h

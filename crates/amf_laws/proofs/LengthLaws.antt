@@ -54,11 +54,11 @@ moves_fit : {May : List ℕ → Type 0} {b : Beginning} {p q : Running} {w : Wor
 unfolding put put_link
 moves_fit begin here = begin
 moves_fit begin (said {p} {q} {w} number protection message may h) = act_more w.acts (Say number protection message) (moves_fit begin h) tt
-moves_fit begin (asked {p} {q} {w} call s h) =
+moves_fit begin (asked {p} {q} {w} call s is e h) =
     act_more w.acts (Tell (Smf (record { supi = s.supi; call = call }))) (moves_fit begin h) tt
-moves_fit begin (starts {p} {q} {w} id s e h) =
+moves_fit begin (starts {p} {q} {w} id s is e h) =
     act_more w.acts (Tell (Start s.supi id (deadline_after w.moment (duration_of id (config_of w).durations)))) (moves_fit begin h) tt
-moves_fit begin (stops {p} {q} {w} id s e h) = act_more w.acts (Tell (Stop s.supi id)) (moves_fit begin h) tt
+moves_fit begin (stops {p} {q} {w} id s is e h) = act_more w.acts (Tell (Stop s.supi id)) (moves_fit begin h) tt
 moves_fit begin (puts s e h) = moves_fit begin h
 moves_fit begin (links number supi waiting h) = moves_fit begin h
 moves_fit begin (homes home h) = moves_fit begin h

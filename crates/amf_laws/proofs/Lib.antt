@@ -11,6 +11,7 @@ pub mod LinkRecords
 pub mod MarkLaws
 pub mod Moves
 pub mod OtherLaws
+pub mod OwnTimerLaws
 pub mod PassedLaws
 pub mod PlainLaws
 pub mod Records

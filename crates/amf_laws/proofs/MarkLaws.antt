@@ -142,9 +142,9 @@ moves_unset : (n : ℕ) {May : List ℕ → Type 0} {b : Beginning} {p q : Runni
 unfolding put
 moves_unset n begin here = begin
 moves_unset n begin (said number protection message may h) = moves_unset n begin h
-moves_unset n begin (asked call s h) = moves_unset n begin h
-moves_unset n begin (starts id s e h) = moves_unset n begin h
-moves_unset n begin (stops id s e h) = moves_unset n begin h
+moves_unset n begin (asked call s is e h) = moves_unset n begin h
+moves_unset n begin (starts id s is e h) = moves_unset n begin h
+moves_unset n begin (stops id s is e h) = moves_unset n begin h
 moves_unset n begin (puts s e h) = moves_unset n begin h
 moves_unset n begin (links {p} {q} {w} number supi waiting h) = put_unset n number supi waiting w (moves_unset n begin h)
 moves_unset n begin (homes home h) = moves_unset n begin h
@@ -155,11 +155,11 @@ unfolding put put_link
 moves_told begin here = begin
 moves_told begin (said {p} {q} {w} number protection message may h) =
     act_more w.acts (Say number protection message) (moves_told begin h)
-moves_told begin (asked {p} {q} {w} call s h) =
+moves_told begin (asked {p} {q} {w} call s is e h) =
     act_more w.acts (Tell (Smf (record { supi = s.supi; call = call }))) (moves_told begin h)
-moves_told begin (starts {p} {q} {w} id s e h) =
+moves_told begin (starts {p} {q} {w} id s is e h) =
     act_more w.acts (Tell (Start s.supi id (deadline_after w.moment (duration_of id (config_of w).durations)))) (moves_told begin h)
-moves_told begin (stops {p} {q} {w} id s e h) =
+moves_told begin (stops {p} {q} {w} id s is e h) =
     act_more w.acts (Tell (Stop s.supi id)) (moves_told begin h)
 moves_told begin (puts s e h) = moves_told begin h
 moves_told begin (links number supi waiting h) = moves_told begin h

@@ -15,6 +15,7 @@ use Rattle.amf_core.specs.declared.requests.Request.{Request}
 use Rattle.amf_core.specs.declared.subscriber.Record.{Record}
 use Rattle.nas_base.proofs.Branching.{per_holds, when_holds}
 use Rattle.amf_laws.specs.Kept.{AreFew}
+use Rattle.amf_laws.specs.OwnTimers.{is_of_procedure, names_session}
 use Rattle.amf_laws.specs.Timers.{Running, running_in, with_timer}
 
 -- a subscriber's SUPI and kept 5G-GUTIs, the step so far, which of its timers run by what was told, and which by its procedure
@@ -40,10 +41,11 @@ pub data Moves (May : List ℕ → Type 0) (b : Beginning) : Running → Running
   here : Moves May b b.told b.opened b.first
   said : {p q : Running} {w : Work} (number : ℕ) (protection : Protection) (message : Mm) → MayProtect May protection → Moves May b p q w
       → Moves May b p q (say number protection message w)
-  asked : {p q : Running} {w : Work} (call : SmfAsk) (s : Record) → Moves May b p q w → Moves May b p q (ask call s w)
-  starts : {p q : Running} {w : Work} (id : TimerId) (s : Record) → Own May b s → Moves May b p q w
+  asked : {p q : Running} {w : Work} (call : SmfAsk) (s : Record) → names_session call ≡ true → Own May b s → Moves May b p q w
+      → Moves May b p q (ask call s w)
+  starts : {p q : Running} {w : Work} (id : TimerId) (s : Record) → is_of_procedure id ≡ true → Own May b s → Moves May b p q w
       → Moves May b (with_timer id true p) q (start id s w)
-  stops : {p q : Running} {w : Work} (id : TimerId) (s : Record) → Own May b s → Moves May b p q w
+  stops : {p q : Running} {w : Work} (id : TimerId) (s : Record) → is_of_procedure id ≡ true → Own May b s → Moves May b p q w
       → Moves May b (with_timer id false p) q (stop id s w)
   puts : {p q : Running} {w : Work} (s : Record) → Own May b s → Moves May b p q w → Moves May b p (running_in s.procedure) (put s w)
   links : {p q : Running} {w : Work} (number : ℕ) (supi : Option (List ℕ)) (waiting : Option Request) → Moves May b p q w

@@ -76,11 +76,11 @@ unfolding put put_link
 moves_for May begin here = begin
 moves_for May begin (said {p} {q} {w} number protection message may h) =
     act_more May w.acts (Say number protection message) (moves_for May begin h) may
-moves_for May begin (asked {p} {q} {w} call s h) =
+moves_for May begin (asked {p} {q} {w} call s is e h) =
     act_more May w.acts (Tell (Smf (record { supi = s.supi; call = call }))) (moves_for May begin h) tt
-moves_for May begin (starts {p} {q} {w} id s e h) =
+moves_for May begin (starts {p} {q} {w} id s is e h) =
     act_more May w.acts (Tell (Start s.supi id (deadline_after w.moment (duration_of id (config_of w).durations)))) (moves_for May begin h) tt
-moves_for May begin (stops {p} {q} {w} id s e h) = act_more May w.acts (Tell (Stop s.supi id)) (moves_for May begin h) tt
+moves_for May begin (stops {p} {q} {w} id s is e h) = act_more May w.acts (Tell (Stop s.supi id)) (moves_for May begin h) tt
 moves_for May begin (puts s e h) = moves_for May begin h
 moves_for May begin (links number supi waiting h) = moves_for May begin h
 moves_for May begin (homes home h) = moves_for May begin h

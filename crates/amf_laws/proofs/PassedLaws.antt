@@ -88,11 +88,11 @@ unfolding put put_link
 moves_passed P begin here = begin
 moves_passed P begin (said {p} {q} {w} number protection message may h) =
     act_more P w.acts (Say number protection message) (moves_passed P begin h) tt
-moves_passed P begin (asked {p} {q} {w} call s h) =
+moves_passed P begin (asked {p} {q} {w} call s is e h) =
     act_more P w.acts (Tell (Smf (record { supi = s.supi; call = call }))) (moves_passed P begin h) tt
-moves_passed P begin (starts {p} {q} {w} id s e h) =
+moves_passed P begin (starts {p} {q} {w} id s is e h) =
     act_more P w.acts (Tell (Start s.supi id (deadline_after w.moment (duration_of id (config_of w).durations)))) (moves_passed P begin h) tt
-moves_passed P begin (stops {p} {q} {w} id s e h) =
+moves_passed P begin (stops {p} {q} {w} id s is e h) =
     act_more P w.acts (Tell (Stop s.supi id)) (moves_passed P begin h) tt
 moves_passed P begin (puts s e h) = moves_passed P begin h
 moves_passed P begin (links number supi waiting h) = moves_passed P begin h

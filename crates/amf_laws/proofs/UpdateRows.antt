@@ -23,7 +23,7 @@ use Rattle.amf_laws.specs.Timers.{Running, none_runs, running_in, with_timer}
 -- the command, and a 5G-GUTI that is offered by it
 pub update_put_moves : {May : List ℕ → Type 0} {b : Beginning} {p q : Running} {w : Work} (u : Updating) (s : Record) → Own May b s
     → Moves May b p q w → Moves May b (with_timer T3555 true p) (running_in s.procedure) (update_put u s w)
-update_put_moves u s e h = starts T3555 s e (say_on_moves s.link (Ciphered s.supi) _ e.2 (puts s e h))
+update_put_moves u s e h = starts T3555 s refl e (say_on_moves s.link (Ciphered s.supi) _ e.2 (puts s e h))
 
 kept_beside_few : (g : Guti) (kept : List Guti) → AreFew (kept_beside g kept)
 kept_beside_few g [] = omega arith

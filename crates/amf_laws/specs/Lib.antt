@@ -1,5 +1,6 @@
 pub mod Kept
 pub mod Lengths
 pub mod Others
+pub mod OwnTimers
 pub mod Passing
 pub mod Timers

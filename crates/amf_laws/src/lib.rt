@@ -14,4 +14,4 @@ pub use crate::passing::{
     Arrival, failed_service_request_changes_nothing, fresh_uplink_clears_the_mark,
     opened_where_passing, plain_octets_by_kind, unchecked_octets_do_nothing,
 };
-pub use crate::timers::{subscribers_stay_distinct, timers_fit_procedures};
+pub use crate::timers::{asks_are_of_subscribers, subscribers_stay_distinct, timers_are_of_procedures, timers_fit_procedures};

@@ -14,6 +14,7 @@ use Rattle.amf_laws.specs.Timers as laws
 use Rattle.smf_core.specs.TimerLaws.{is_of_command}
 use Rattle.nas_network.specs.Owners.{commands_for, commands_of, running_for, running_of, timed}
 use Rattle.nas_network.specs.State.{SubscriberTimers, is_timed, started_for, stopped_for}
+use Rattle.nas_network.specs.Ticks.{is_of_smf}
 use Rattle.nas_network.specs.Turns.{Turn, all_taken, taken}
 use Rattle.nas_network.proofs.CommandRuns.{procedure_starts, procedure_stops}
 use Rattle.nas_network.proofs.Supis.{changed_timed, others_stay, own_change, reading_stays, timed_stay}
@@ -79,6 +80,21 @@ command_stops (T3581 n) ts own = absurd (cc own)
 command_stops (T3582 n) ts own = absurd (cc own)
 command_stops (T3591 n) ts own = stops (T3591 n) ts
 command_stops (T3592 n) ts own = stops (T3592 n) ts
+
+pub smf_stops : (id : TimerId) (ts : List timers.Running) → is_of_smf id ≡ true → running_of (stopped id ts) ≡ running_of ts
+smf_stops T3510 ts own = absurd (cc own)
+smf_stops T3516 ts own = absurd (cc own)
+smf_stops T3517 ts own = absurd (cc own)
+smf_stops T3521 ts own = absurd (cc own)
+smf_stops T3522 ts own = absurd (cc own)
+smf_stops T3550 ts own = absurd (cc own)
+smf_stops T3555 ts own = absurd (cc own)
+smf_stops T3560 ts own = absurd (cc own)
+smf_stops (T3580 n) ts own = absurd (cc own)
+smf_stops (T3581 n) ts own = absurd (cc own)
+smf_stops (T3582 n) ts own = absurd (cc own)
+smf_stops (T3591 n) ts own = stops (T3591 n) ts
+smf_stops (T3592 n) ts own = stops (T3592 n) ts
 
 -- what goes out starts and stops those of the SUPIs that timers are kept for
 start_runs : (x supi : List ℕ) (id : TimerId) (at : ℕ) (ss : List SubscriberTimers) (own : Bool) → bytes_eq supi x ≡ own → is_timed x ss ≡ true

@@ -10,8 +10,8 @@ use Rattle.amf_laws.proofs.Records.{are_equal, equals_itself}
 use Rattle.smf_core.specs.Laws.{names_one, supis}
 use Rattle.smf_core.specs.Sessions.{AreSessions}
 use Rattle.smf_core.specs.State.{SmfState, cell_of, is_subscriber, status_of}
-use Rattle.smf_core.specs.Step.{Stepped}
-use Rattle.smf_core.specs.TimerLaws.{AreOfCommands, IsOfCommand, Running, running_after, running_at, running_of, running_with, with_timer}
+use Rattle.smf_core.specs.Step.{Stepped, step_of}
+use Rattle.smf_core.specs.TimerLaws.{AreOfCommands, IsOfCommand, Running, no_timer, running_after, running_at, running_of, running_with, with_timer}
 use Rattle.smf_core.specs.declared.inputs.SmfInput.{SmfInput}
 use Rattle.smf_core.specs.declared.inputs.SmfRefusal.{SmfRefusal}
 use Rattle.smf_core.specs.declared.outs.SmfOut.{SmfOut}
@@ -21,12 +21,12 @@ use Rattle.smf_core.proofs.OwnTimers.{timers_are_of_commands}
 use Rattle.smf_core.proofs.StepSessions.{sessions_stay}
 use Rattle.smf_core.proofs.SubscriberLaws.{subscribers_stay}
 use Rattle.smf_core.proofs.TimerLaw.{timers_run}
-use Rattle.nas_network.specs.Owners.{ArePlaced, FitCommands, HaveOwners, commands_for, commands_of, running_for, timed}
+use Rattle.nas_network.specs.Owners.{ArePlaced, AreNamed, HaveOwners, commands_for, commands_of, running_for, timed}
 use Rattle.nas_network.specs.Owners as owners
 use Rattle.nas_network.specs.State.{NetworkState, SubscriberTimers, is_timed, started_for, stopped_for}
 use Rattle.nas_network.specs.Turns.{Turn, all_smf_taken, handed, sessions_told, smf_onto, smf_reached, smf_stepped, smf_taken, starting, stopping}
 use Rattle.nas_network.proofs.AmfOwners.{Leaves, handed_leaves}
-use Rattle.nas_network.proofs.CommandRuns.{starts, stops}
+use Rattle.nas_network.proofs.CommandRuns.{not_named, starts, stops}
 use Rattle.nas_network.proofs.Running.{command_starts, command_stops}
 use Rattle.nas_network.proofs.Supis.{changed_timed, has_of, is_one_of, others_stay, own_change, reading_stays, timed_is, timed_stay}
 
@@ -44,7 +44,7 @@ record Runs (supi : List ℕ) (list : List SmfOut) (t u : Turn) : Type 0 where
   others : (x : List ℕ) (psi : ℕ) → bytes_eq supi x ≡ false → commands_for u.network.timers x psi ≡ commands_for t.network.timers x psi
 
 -- placed as before, where timers of commands alone changed
-timers_placed : (n : NetworkState) (ss : List SubscriberTimers) → ArePlaced n → timed ss ≡ timed n.timers
+pub timers_placed : (n : NetworkState) (ss : List SubscriberTimers) → ArePlaced n → timed ss ≡ timed n.timers
     → ((x : List ℕ) → running_for ss x ≡ running_for n.timers x) → ArePlaced (record n { timers = ss })
 timers_placed n ss placed same runs = record {
   fit = λ x. runs x ∙ placed.fit x;
@@ -136,6 +136,7 @@ pub record SmfBegins (supi : List ℕ) (input : SmfInput) (t : Turn) : Type 0 wh
       → commands_for t.network.timers supi psi ≡ running_at psi input (running_of (cell_of supi psi t.network.smf).held)
   pub others : (x : List ℕ) (psi : ℕ) → bytes_eq supi x ≡ false → is_psi psi ≡ true
       → commands_for t.network.timers x psi ≡ running_of (cell_of x psi t.network.smf).held
+  pub named : AreNamed t.network.timers
 
 -- what holds of a step of an SMF
 record SmfLawful (supi : List ℕ) (input : SmfInput) (smf : SmfState) (s : Stepped) : Type 0 where
@@ -145,6 +146,13 @@ record SmfLawful (supi : List ℕ) (input : SmfInput) (smf : SmfState) (s : Step
   runs : (psi : ℕ) → is_psi psi ≡ true
       → running_after psi s.outs (running_at psi input (running_of (cell_of supi psi smf).held)) ≡ running_of (cell_of supi psi s.smf).held
   others : (x : List ℕ) (psi : ℕ) → bytes_eq supi x ≡ false → cell_of x psi s.smf ≡ cell_of x psi smf
+
+others_apart : (m : SmfState) (now : ℕ) (supi : List ℕ) (input : SmfInput) → names_one input ≡ true
+    → IfOk (step_of m now supi input) (λ (x : Stepped). (other : List ℕ) (q : ℕ) → bytes_eq supi other ≡ false → cell_of other q x.smf ≡ cell_of other q m)
+others_apart m now supi input named = first_of (step_of m now supi input) (smf_others.others_stay m now supi input named) where
+  first_of : {A B : Stepped → Type 0} (r : Result Stepped SmfRefusal) → IfOk r (λ (x : Stepped). A x × B x) → IfOk r A
+  first_of (Ok x) both = both.0
+  first_of (Err e) both = tt
 
 smf_lawful : (supi : List ℕ) (input : SmfInput) (t : Turn) (s : Stepped) → smf_stepped supi input t ≡ Ok s → ArePlaced t.network
     → is_subscriber supi t.network.smf ≡ true → names_one input ≡ true → SmfLawful supi input t.network.smf s
@@ -159,8 +167,18 @@ smf_lawful supi input t s step placed served named =
       runs = λ psi is. timers_run m now supi input psi s placed.sessions served named is step;
       others = (subst (λ (r : Result Stepped SmfRefusal). IfOk r (λ (x : Stepped).
           ((other : List ℕ) (q : ℕ) → bytes_eq supi other ≡ false → cell_of other q x.smf ≡ cell_of other q m))) step
-          (apart m now supi input named));
+          (others_apart m now supi input named));
     }
+
+-- of what is no identity no timer starts or stops
+none_after : (psi : ℕ) (list : List SmfOut) → is_psi psi ≡ false → AreOfCommands list → running_after psi list no_timer ≡ no_timer
+none_after psi [] not of = refl
+none_after psi (outs.Down n frame ∷ list) not of = none_after psi list not of.1
+none_after psi (outs.Fence ∷ list) not of = none_after psi list not of.1
+none_after psi (outs.Start id at ∷ list) not of =
+    ap (running_after psi list) (not_named psi id true of.0 not) ∙ none_after psi list not of.1
+none_after psi (outs.Stop id ∷ list) not of =
+    ap (running_after psi list) (not_named psi id false of.0 not) ∙ none_after psi list not of.1
 
 pub smf_owned : (rand supi : List ℕ) (input : SmfInput) (t : Turn) (s : Stepped) → SmfBegins supi input t → is_subscriber supi t.network.smf ≡ true
     → names_one input ≡ true → smf_stepped supi input t ≡ Ok s → HaveOwners (smf_onto rand supi (Ok s) t).network
@@ -186,7 +204,16 @@ smf_owned rand supi input t s b served named step =
       placed = told.placed;
       commands = λ x psi is. told.commands x psi ∙ by_place x psi is (bytes_eq supi x) refl runs law
           ∙ ap (λ (m : SmfState). running_of (cell_of x psi m).held) (sym smf);
+      named = λ x psi not. told.commands x psi ∙ named_by x psi not (bytes_eq supi x) refl runs law;
     } where
+      named_by : (x : List ℕ) (psi : ℕ) → is_psi psi ≡ false → (own : Bool) → bytes_eq supi x ≡ own
+          → Runs supi s.outs (smf_reached s t) (all_smf_taken rand supi s.outs (smf_reached s t)) → SmfLawful supi input t.network.smf s
+          → commands_for (all_smf_taken rand supi s.outs (smf_reached s t)).network.timers x psi ≡ no_timer
+      named_by x psi not true own runs law =
+          let here : commands_for (all_smf_taken rand supi s.outs (smf_reached s t)).network.timers supi psi ≡ no_timer =
+          runs.own psi ∙ ap (running_after psi s.outs) (b.named supi psi not) ∙ none_after psi s.outs not law.of in
+          subst (λ (y : List ℕ). commands_for (all_smf_taken rand supi s.outs (smf_reached s t)).network.timers y psi ≡ no_timer) (are_equal supi x own) here
+      named_by x psi not false other runs law = runs.others x psi other ∙ b.named x psi not
       by_place : (x : List ℕ) (psi : ℕ) → is_psi psi ≡ true → (own : Bool) → bytes_eq supi x ≡ own
           → Runs supi s.outs (smf_reached s t) (all_smf_taken rand supi s.outs (smf_reached s t)) → SmfLawful supi input t.network.smf s
           → commands_for (all_smf_taken rand supi s.outs (smf_reached s t)).network.timers x psi ≡ running_of (cell_of x psi s.smf).held

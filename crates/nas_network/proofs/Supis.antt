@@ -1,7 +1,8 @@
 -- Whom timers and records are kept for.
 use Rattle.std.proofs.Common.{◌≡◌, ◌∙◌, ap, refl, sym, ℕ, Bool, true, false, is_some, List, [], ◌∷◌, None, Some, if◌then◌else◌}
 use Rattle.std.specs.Str.{bytes_eq}
-use Rattle.nas_timers.specs.Timers.{Running}
+use Rattle.nas_timers.specs.Timers.{Running, stopped}
+use Rattle.nas_timers.specs.declared.timer_id.TimerId.{TimerId}
 use Rattle.amf_core.specs.State.{subscriber_in}
 use Rattle.amf_core.specs.declared.subscriber.Record.{Record}
 use Rattle.amf_laws.proofs.Records.{are_equal}
@@ -10,7 +11,7 @@ use Rattle.smf_core.specs.Laws as smf_laws
 use Rattle.smf_core.specs.State as smf
 use Rattle.smf_core.specs.declared.subscriber.Subscriber.{Subscriber}
 use Rattle.nas_network.specs.Owners.{timed}
-use Rattle.nas_network.specs.State.{SubscriberTimers, changed_for, is_timed, timers_of}
+use Rattle.nas_network.specs.State.{SubscriberTimers, changed_for, is_timed, stopped_for, timers_of}
 
 abbrev pub is_one_of : List ℕ → List (List ℕ) → Bool
 is_one_of x [] = false
@@ -37,6 +38,16 @@ pub own_change : (x supi : List ℕ) (change : List Running → List Running) (s
     → is_timed x ss ≡ true → timers_of x (changed_for supi change ss) ≡ change (timers_of x ss)
 own_change x supi change ss is there =
     ap (λ (y : List ℕ). timers_of x (changed_for y change ss)) (are_equal supi x is) ∙ own_changes x change ss there
+
+-- one that is stopped also where none are kept
+pub own_stops : (x : List ℕ) (id : TimerId) (ss : List SubscriberTimers) → timers_of x (stopped_for x id ss) ≡ stopped id (timers_of x ss)
+own_stops x id [] = refl
+own_stops x id (s ∷ ss) = by_test (bytes_eq s.supi x) refl (own_stops x id ss) where
+  by_test : (b : Bool) → bytes_eq s.supi x ≡ b → timers_of x (stopped_for x id ss) ≡ stopped id (timers_of x ss)
+      → timers_of x (if b then record s { timers = stopped id s.timers } ∷ ss else s ∷ stopped_for x id ss)
+      ≡ stopped id (if b then s.timers else timers_of x ss)
+  by_test true is rest = rw is refl
+  by_test false is rest = rw is rest
 
 pub others_stay : (x supi : List ℕ) (change : List Running → List Running) (ss : List SubscriberTimers) → bytes_eq supi x ≡ false
     → timers_of x (changed_for supi change ss) ≡ timers_of x ss

@@ -23,7 +23,7 @@ use Rattle.smf_core.specs.TimerLaws.{Running, running_at, running_of, with_timer
 use Rattle.smf_core.specs.declared.inputs.SmfInput.{SmfInput}
 use Rattle.smf_core.specs.declared.inputs.SmfInput.TheVariants as smf_inputs
 use Rattle.smf_core.specs.declared.inputs.SmfRefusal.{SmfRefusal}
-use Rattle.nas_network.specs.Owners.{ArePlaced, FitCommands, HaveOwners, IsNoExpiry, commands_for, commands_of}
+use Rattle.nas_network.specs.Owners.{AreNamed, ArePlaced, FitCommands, HaveOwners, IsNoExpiry, commands_for, commands_of}
 use Rattle.nas_network.specs.State.{NetworkState, is_timed}
 use Rattle.nas_network.specs.Ticks.{is_of_smf}
 use Rattle.nas_network.specs.Turns.{Turn, all_asked, all_taken, amf_onto, ask_input, asked, asks_in, onto, reached, smf_onto, smf_stepped, smf_turned, stepped, turned}
@@ -35,11 +35,12 @@ use Rattle.nas_network.proofs.SmfOwners.{SmfBegins, smf_owned}
 abbrev pub IsNoSmfExpiry : SmfInput → Type 0
 IsNoSmfExpiry input = (psi : ℕ) (r : Running) → running_at psi input r ≡ r
 
-smf_begins : (supi : List ℕ) (input : SmfInput) (t : Turn) → IsNoSmfExpiry input → HaveOwners t.network → SmfBegins supi input t
+pub smf_begins : (supi : List ℕ) (input : SmfInput) (t : Turn) → IsNoSmfExpiry input → HaveOwners t.network → SmfBegins supi input t
 smf_begins supi input t none owned = record {
   placed = owned.placed;
   own = λ psi is. owned.commands supi psi is ∙ sym (none psi _);
   others = λ x psi other is. owned.commands x psi is;
+  named = owned.named;
 }
 
 -- where the SMF has the subscriber, and the step is no refusal, what came of it has owners; else all is as before
@@ -49,7 +50,7 @@ smf_onto_by : (rand supi : List ℕ) (input : SmfInput) (t : Turn) (r : Result s
 smf_onto_by rand supi input t (Ok s) step b served named refused = smf_owned rand supi input t s b served named step
 smf_onto_by rand supi input t (Err e) step b served named refused = refused e refl
 
-smf_by : (rand supi : List ℕ) (input : SmfInput) (t : Turn) (there : Bool) → is_subscriber supi t.network.smf ≡ there
+pub smf_by : (rand supi : List ℕ) (input : SmfInput) (t : Turn) (there : Bool) → is_subscriber supi t.network.smf ≡ there
     → SmfBegins supi input t → names_one input ≡ true → (there ≡ false → HaveOwners t.network)
     → ((e : SmfRefusal) → smf_stepped supi input t ≡ Err e → HaveOwners t.network)
     → HaveOwners (chosen there (smf_onto rand supi (smf_stepped supi input t) t) t).network
@@ -77,7 +78,7 @@ ask_names asks.Switched named = refl
 ask_names asks.ReleaseAll named = refl
 ask_names (asks.KeepOnly status) named = refl
 
-abbrev AllNamed : List SmfCall → Type 0
+abbrev pub AllNamed : List SmfCall → Type 0
 AllNamed [] = Unit {0}
 AllNamed (ask ∷ list) = (names_session ask.call ≡ true) × AllNamed list
 
@@ -103,20 +104,24 @@ commands_stay list t own fit = λ x psi is.
     ∙ ap (λ (m : SmfState). running_of (cell_of x psi m).held) (sym (all_smf_stay list t))
 
 pub onto_owned : (rand : List ℕ) (n : NetworkState) (input : AmfInput) (s : Stepped) (t : Turn) → Begins n input t
-    → FitCommands t.network.smf t.network.timers → Lawful n.amf input s → HaveOwners (onto rand (Ok s) t).network
-onto_owned rand n input s t b fit law =
+    → FitCommands t.network.smf t.network.timers → AreNamed t.network.timers → Lawful n.amf input s → HaveOwners (onto rand (Ok s) t).network
+onto_owned rand n input s t b fit named law =
     all_asked_owned rand (asks_in s.outs) (amf_onto (Ok s) t) (all_named s.outs law.own)
-    (record { placed = onto_placed n input s t b law; commands = commands_stay s.outs (reached s t) law.own fit })
+    (record {
+      placed = onto_placed n input s t b law;
+      commands = commands_stay s.outs (reached s t) law.own fit;
+      named = λ x psi not. all_commands x psi s.outs (reached s t) law.own ∙ named x psi not;
+    })
 
-onto_by : (rand : List ℕ) (n : NetworkState) (input : AmfInput) (t : Turn) (r : Result Stepped AmfRefusal) → stepped rand input t ≡ r
-    → Begins n input t → FitCommands t.network.smf t.network.timers → ((e : AmfRefusal) → r ≡ Err e → HaveOwners t.network)
+pub onto_by : (rand : List ℕ) (n : NetworkState) (input : AmfInput) (t : Turn) (r : Result Stepped AmfRefusal) → stepped rand input t ≡ r
+    → Begins n input t → FitCommands t.network.smf t.network.timers → AreNamed t.network.timers → ((e : AmfRefusal) → r ≡ Err e → HaveOwners t.network)
     → HaveOwners (onto rand r t).network
-onto_by rand n input t (Ok s) step b fit refused =
-    onto_owned rand n input s t b fit (subst (λ a. Lawful a input s) b.amf (lawful rand input t s step))
-onto_by rand n input t (Err e) step b fit refused = refused e refl
+onto_by rand n input t (Ok s) step b fit named refused =
+    onto_owned rand n input s t b fit named (subst (λ a. Lawful a input s) b.amf (lawful rand input t s step))
+onto_by rand n input t (Err e) step b fit named refused = refused e refl
 
 pub turned_owned : (rand : List ℕ) (input : AmfInput) (t : Turn) → IsNoExpiry input → HaveOwners t.network
     → HaveOwners (turned rand input t).network
 unfolding turned
 turned_owned rand input t none owned =
-    onto_by rand t.network input t (stepped rand input t) refl (begins input t none owned.placed) owned.commands (λ _ _. owned)
+    onto_by rand t.network input t (stepped rand input t) refl (begins input t none owned.placed) owned.commands owned.named (λ _ _. owned)

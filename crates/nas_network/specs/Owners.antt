@@ -1,5 +1,5 @@
 -- Which timers of procedures and of commands run at a network (TS 24.501 clauses 10.2 and 10.3).
-use Rattle.std.specs.Prelude.{◌≡◌, is_some, nat_le, ℕ, Bool, true, List, [], ◌∷◌, length}
+use Rattle.std.specs.Prelude.{◌≡◌, is_some, nat_le, ℕ, Bool, true, false, List, [], ◌∷◌, length}
 use Rattle.std.specs.List.{list_all}
 use Rattle.nas_timers.specs.Timers as timers
 use Rattle.nas_timers.specs.Timers.{deadline_of}
@@ -14,6 +14,8 @@ use Rattle.smf_core.specs.Sessions.{AreSessions}
 use Rattle.smf_core.specs.State.{SmfState, cell_of}
 use Rattle.smf_core.specs.TimerLaws as smf
 use Rattle.nas_network.specs.State.{NetworkState, SubscriberTimers, timers_of}
+use Rattle.nas_network.specs.declared.command.NetCommand.{NetCommand}
+use Rattle.nas_network.specs.declared.command.NetCommand.TheVariants.{Authenticate, Deregister, Update, Modify, Release}
 
 -- those of the four that have a deadline
 abbrev pub running_of : List timers.Running → Running
@@ -55,6 +57,10 @@ abbrev pub FitCommands : SmfState → List SubscriberTimers → Type 0
 FitCommands s ts =
     (supi : List ℕ) (psi : ℕ) → is_psi psi ≡ true → commands_for ts supi psi ≡ smf.running_of (cell_of supi psi s).held
 
+-- and none runs but of an identity
+abbrev pub AreNamed : List SubscriberTimers → Type 0
+AreNamed ts = (supi : List ℕ) (psi : ℕ) → is_psi psi ≡ false → commands_for ts supi psi ≡ smf.no_timer
+
 -- The timer of a procedure runs exactly while that procedure is open, for each SUPI. No SUPI is kept twice; timers are kept for those
 -- that the AMF keeps, and these are the SMF's, in one order. Of 5G-GUTIs two are kept at most. Sessions are as an SMF's are.
 pub record ArePlaced (n : NetworkState) : Type 0 where
@@ -68,7 +74,16 @@ pub record ArePlaced (n : NetworkState) : Type 0 where
 pub record HaveOwners (n : NetworkState) : Type 0 where
   pub placed : ArePlaced n
   pub commands : FitCommands n.smf n.timers
+  pub named : AreNamed n.timers
 
 -- an input that isn't the expiry of a timer
 abbrev pub IsNoExpiry : AmfInput → Type 0
 IsNoExpiry input = (running : List ℕ → Running) (supi : List ℕ) → expired_by input running supi ≡ running supi
+
+-- an identity that a command names is one
+abbrev pub names_identity : NetCommand → Bool
+names_identity (Authenticate supi) = true
+names_identity (Deregister supi) = true
+names_identity (Update supi) = true
+names_identity (Modify supi psi ops ambr) = is_psi psi
+names_identity (Release supi psi) = is_psi psi

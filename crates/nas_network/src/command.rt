@@ -1,6 +1,7 @@
 //! The commands to a network, and what it answers.
-ghost use Rattle.std.specs.Prelude.{◌≡◌};
+ghost use Rattle.std.specs.Prelude.{◌≡◌, true};
 ghost use Rattle.nas_network.specs.Network.{refusal_of, smf_refusal_of};
+ghost use Rattle.nas_network.specs.Owners.{names_identity};
 
 use amf_core::AmfRefusal;
 use nas_base::{AmfWord, Psi, SmfWord, Supi};
@@ -65,6 +66,21 @@ pub struct NetDelivery {
     pub sends: Sends,
     /// The check that the octets passed, if they did.
     pub passed: Option<Pass>,
+}
+
+impl NetCommand {
+    // Says that the identity that it names is one.
+    pub(crate) fn names_identity(&self)
+        ensures { names_identity self.now ≡ true }
+    {
+        let _number = match self {
+            NetCommand::Authenticate(_) => 1,
+            NetCommand::Deregister(_) => 1,
+            NetCommand::Update { .. } => 1,
+            NetCommand::Modify { psi, .. } => psi.0,
+            NetCommand::Release { psi, .. } => psi.0,
+        };
+    }
 }
 
 impl NetRefusal {

@@ -195,6 +195,7 @@ impl Network {
         ensures owned { IfOk result (λ followed. HaveOwners (taken_over followed.0 self.now)) }
     {
         let _moment = self.moment;
+        command.names_identity();
         match self.commanded_by(alloc, rand, command) {
             Ok(followed) => Ok(followed),
             Err(refusal) => Err(refusal),
