@@ -63,7 +63,7 @@ fn walk(alloc: Global, sqn: &str, capability: &str, inputs: &[&str]) -> Result<S
     let config = config(sequence_number(sqn)?, capability)?;
     let mut course = Course::new(alloc, &config)?;
     for word in inputs {
-        course.go(alloc, handset_inputs::read_input(alloc, word)?)?;
+        course.go(alloc, handset_inputs::read_word(alloc, word)?)?;
     }
     Ok(course.told)
 }

@@ -1,6 +1,6 @@
 //! A handset on its way through inputs.
 
-use crate::handset_inputs::Input;
+use crate::handset_inputs::{Input, Word};
 use crate::handset_texts::{delivery_text, refusal_text, sends_text, view_text};
 use nas_base::Moment;
 use nas_handset::{Handset, UeCommand};
@@ -26,11 +26,11 @@ impl Course {
         })
     }
 
-    /// What comes of the next input, behind the other answers.
-    pub fn go(&mut self, alloc: Global, input: Input) -> Result<(), Refusal> {
-        let answer = match input {
-            Input::Session(psi) => handset_session_text(alloc, &self.handset.session(psi))?,
-            other => self.step(alloc, other)?,
+    /// What comes of the next word, behind the other answers.
+    pub fn go(&mut self, alloc: Global, word: Word) -> Result<(), Refusal> {
+        let answer = match word {
+            Word::Session(psi) => handset_session_text(alloc, &self.handset.session(psi))?,
+            Word::Input(input) => self.step(alloc, input)?,
         };
         if !self.told.is_empty() {
             push(&mut self.told, " ")?;
@@ -64,7 +64,6 @@ impl Course {
                 self.handset = self.handset.copy(alloc)?;
                 Ok(String::new(alloc))
             }
-            Input::Session(_) => Ok(String::new(alloc)),
         }
     }
 

@@ -8,7 +8,15 @@ use std::alloc::Global;
 use ue_mm::MmCommand;
 use ue_sm::SmCommand;
 
-/// What a word gives.
+/// What a word says.
+#[derive(Drop)]
+pub enum Word {
+    /// A session is looked at.
+    Session(Psi),
+    Input(Input),
+}
+
+/// What is given to a handset.
 #[derive(Drop)]
 pub enum Input {
     Command(UeCommand),
@@ -22,22 +30,25 @@ pub enum Input {
     Restart,
     /// A copy of the handset goes on in its place.
     Copy,
-    /// A session is looked at.
-    Session(Psi),
 }
 
-/// What a word gives.
-pub fn read_input(alloc: Global, word: &str) -> Result<Input, Refusal> {
+/// What a word says.
+pub fn read_word(alloc: Global, word: &str) -> Result<Word, Refusal> {
     match word.split_once(":") {
-        Some(("octets", value)) => Ok(Input::Octets(octets(alloc, value)?)),
-        Some(("tick", value)) => Ok(Input::Tick(moment(value)?)),
-        Some(("session", value)) => Ok(Input::Session(session(value)?)),
-        Some((name, value)) => Ok(Input::Command(of_session(session_command(
-            alloc,
-            name,
-            value,
-        )?))),
-        None => bare(word),
+        Some(("session", value)) => Ok(Word::Session(session(value)?)),
+        Some((name, value)) => Ok(Word::Input(input_of(alloc, name, value)?)),
+        None => Ok(Word::Input(bare(word)?)),
+    }
+}
+
+fn input_of(alloc: Global, name: &str, value: &str) -> Result<Input, Refusal> {
+    match name {
+        "octets" => Ok(Input::Octets(octets(alloc, value)?)),
+        "tick" => Ok(Input::Tick(moment(value)?)),
+        _ => {
+            let command = session_command(alloc, name, value)?;
+            Ok(Input::Command(of_session(command)))
+        }
     }
 }
 

@@ -5,6 +5,8 @@
 //!     time_network TIMES SUBSCRIBERS
 //!     time_network_copy TIMES SUBSCRIBERS
 //!     time_both_ends TIMES SUBSCRIBERS
+//!     time_session TIMES SUBSCRIBERS
+//!     time_session_copy TIMES SUBSCRIBERS
 //!
 //! AMF is region, set and pointer in hex, 3 octets, TMSI the 5G-TMSI that is assigned first, in decimal digits, NEA 0 or 2, TAC and
 //! T3512 the octets of an ACCEPT. FIELD is the AMF field of the vectors, SQN is SQN_HE in hex, 6 octets, DNNS are the subscribed data
@@ -37,12 +39,13 @@
 //!
 //! `time_network` has the subscriber that was made last register TIMES times, each time at a copy of the network as it was made, by
 //! the octets that its handset sends; `time_network_copy` makes the copies alone. `time_both_ends` has a handset that was just made
-//! and a copy of the network exchange these octets. All answer a sum of what came out, for a clock outside.
+//! and a copy of the network exchange these octets. `time_session` has copies of both ends, once the handset is registered, establish a
+//! session and release it; `time_session_copy` makes these copies alone. All answer a sum of what came out, for a clock outside.
 
 use crate::network_config::read_config;
 use crate::network_course::Course;
 use crate::network_inputs::read_word;
-use crate::network_times;
+use crate::{network_times, session_times};
 use probe_words::{Refusal, quantity, sum_text};
 use std::alloc::Global;
 
@@ -63,6 +66,8 @@ fn timed(alloc: Global, call: &str, times: u32, subscribers: u32) -> Result<Stri
         "time_network" => network_times::registrations(alloc, times, subscribers)?,
         "time_network_copy" => network_times::copies(alloc, times, subscribers)?,
         "time_both_ends" => network_times::both_ends(alloc, times, subscribers)?,
+        "time_session" => session_times::sessions(alloc, times, subscribers)?,
+        "time_session_copy" => session_times::copies(alloc, times, subscribers)?,
         _ => return Err(Refusal::Unreadable),
     };
     sum_text(alloc, sum)
