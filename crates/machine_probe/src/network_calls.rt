@@ -52,7 +52,16 @@ use std::alloc::Global;
 /// The answer to a call.
 pub fn answer(alloc: Global, words: &[&str]) -> Result<String, Refusal> {
     match words {
-        ["network", network, pools, sessions, ambr, kinds, subscribers, inputs @ ..] => {
+        [
+            "network",
+            network,
+            pools,
+            sessions,
+            ambr,
+            kinds,
+            subscribers,
+            inputs @ ..,
+        ] => {
             let config = [*network, *pools, *sessions, *ambr, *kinds, *subscribers];
             walk(alloc, &config, inputs)
         }

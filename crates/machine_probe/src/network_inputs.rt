@@ -12,10 +12,7 @@ pub enum Word {
     /// The RAND of challenges from here on.
     Random([u8; 16]),
     /// A session of a subscriber is looked at.
-    Session {
-        supi: Supi,
-        psi: Psi,
-    },
+    Session { supi: Supi, psi: Psi },
     Input(Input),
 }
 

@@ -73,12 +73,7 @@ pub fn read_network(table: &Value) -> Result<NetworkTable, ConfigRefusal>
 
 impl NetworkTable {
     /// The network, with these durations and subscribers. It has no pool of IPv6, and no data network is listed by its addresses.
-    pub fn with(
-        self,
-        alloc: Global,
-        durations: Durations,
-        subscribers: Subscribers,
-    ) -> NetConfig
+    pub fn with(self, alloc: Global, durations: Durations, subscribers: Subscribers) -> NetConfig
         requires { are_subscribers self.plmn subscribers ≡ true }
         ensures { result ≡ net_of self durations subscribers }
     {
