@@ -1,12 +1,14 @@
-//! What both ends have of a session, as text: KIND:ADDRESS:DNN:SLICE:AMBR:RULES. The kind is a number;
-//! address, data network, slice and AMBR are octets as in their elements, or `none`; the rules are as in
-//! rule_texts, with a point between their words.
+//! What both ends have of a session, as text: KIND:ADDRESS:DNN:SLICE:AMBR:RULES. The kind is a number; address, data network, slice and
+//! AMBR are octets as in their elements, or `none`; the rules are as in probe_words, with a point between their words. A handset's
+//! session is PSI:STATE, and PSI:STATE:SESSION where it is there; a network's is PSI:STATE:SENT:SESSION.
 
 use nas_elements::{Address, Dnn, Slice};
 use nas_timers::TimerId;
 use probe_words::{Refusal, none, push, rules_text, text, word};
 use sm_messages::Session;
+use smf_core::NetSession;
 use std::alloc::Global;
+use ue_sm::UeSession;
 
 /// The text, and a mark behind it, behind the line.
 pub fn add(line: &mut String, text: String, mark: &str) -> Result<(), Refusal> {
@@ -58,4 +60,23 @@ fn slice_or_none(alloc: Global, slice: &Option<Slice>) -> Result<String, Refusal
         Some(slice) => text(alloc, slice.octets().as_slice()),
         None => none(alloc),
     }
+}
+
+/// A handset's session.
+pub fn handset_session_text(alloc: Global, seen: &UeSession<'_>) -> Result<String, Refusal> {
+    let (psi, state) = (seen.psi, seen.state);
+    let mut line = word(format!(in alloc; "{}:{state:?}", psi.0))?;
+    if let Some(session) = seen.session {
+        push(&mut line, ":")?;
+        push(&mut line, session_text(alloc, session)?.as_str())?;
+    }
+    Ok(line)
+}
+
+/// A network's session.
+pub fn network_session_text(alloc: Global, seen: &NetSession<'_>) -> Result<String, Refusal> {
+    let (psi, state, sent) = (seen.psi, seen.state, seen.sent);
+    let mut line = word(format!(in alloc; "{}:{state:?}:{sent}:", psi.0))?;
+    push(&mut line, session_text(alloc, seen.session)?.as_str())?;
+    Ok(line)
 }
