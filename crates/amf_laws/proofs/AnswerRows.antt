@@ -1,5 +1,6 @@
 -- The moves of answers to challenges, of service requests and of transports, of one subscriber.
 use Rattle.std.proofs.Common.{◌≡◌, refl, sym, ap, subst, ◌∙◌, ◌==◌, ◌||◌, ℕ, Bool, true, false, List, Option, Some, None, if◌then◌else◌}
+use Rattle.std.specs.Prelude.{is_some}
 use Rattle.milenage.specs.Home.{resync_of}
 use Rattle.nas_base.specs.Values.{is_psi, psi_from}
 use Rattle.nas_base.specs.declared.mm_cause.TheConstants as cause
@@ -132,22 +133,27 @@ unfolding mode_rejected
 mode_rejected_settles {May} {b} {w} number s e h =
     per_holds (λ (x : Work). Settled May b x) (commanding_on number s.procedure) w _ (λ _. settled h) (λ o _. settled (ended_moves s e h))
 
+-- a context that is taken into use
+used_own : (May : List ℕ → Type 0) (b : Beginning) (context : SecurityContext) (s : Record) → Own May b s → Own May b (in_use context s)
+used_own May b context s e = (e.0, e.1, e.2, λ is. (λ registered. (refl, ((e.3 is).0 registered).1), (e.3 is).1))
+
 switched_moves : {May : List ℕ → Type 0} {b : Beginning} {q : Running} {w : Work} (o : Commanding) (s : Record) → Own May b s
     → Moves May b (running_in s.procedure) q w → Moves May b none_runs none_runs (switched o s w)
-switched_moves o s e h = asked _ s refl e (puts (in_use o.context s) e (stopped_moves s e h))
+switched_moves {May} {b} o s e h = asked _ s refl e (puts (in_use o.context s) (used_own May b o.context s e) (stopped_moves s e h))
 
 purpose_settles : {May : List ℕ → Type 0} {b : Beginning} {w : Work} (purpose : Purpose) (whole : Option Whole) (number : ℕ) (context : SecurityContext) (s : Record)
-    → Own May b s → Moves May b none_runs none_runs w → Settled May b (goes_on purpose whole number context s w)
-purpose_settles {May} {b} {w} (Registration r) whole number context s e h =
-    per_holds (λ (x : Work). Settled May b x) whole w _ (λ _. settled h) (λ q _. goes_on_settles number r q context s e h)
-purpose_settles Command whole number context s e h = settled h
+    → Own May b s → is_some s.in_use ≡ true → Moves May b none_runs none_runs w → Settled May b (goes_on purpose whole number context s w)
+purpose_settles {May} {b} {w} (Registration r) whole number context s e used h =
+    per_holds (λ (x : Work). Settled May b x) whole w _ (λ _. settled h) (λ q _. goes_on_settles number r q context s e used h)
+purpose_settles Command whole number context s e used h = settled h
 
 pub mode_completed_settles : {May : List ℕ → Type 0} {b : Beginning} {w : Work} (m : SecurityModeComplete) (number : ℕ) (s : Record) → Own May b s
     → Moves May b (running_in s.procedure) (running_in s.procedure) w → Settled May b (mode_completed m number s w)
 unfolding mode_completed
 mode_completed_settles {May} {b} {w} m number s e h =
     per_holds (λ (x : Work). Settled May b x) (commanding_of s.procedure) w _ (λ _. settled h)
-    (λ o _. purpose_settles o.challenging.purpose (whole_in m.message s) number o.context (in_use o.context s) e (switched_moves o s e h))
+    (λ o _. purpose_settles o.challenging.purpose (whole_in m.message s) number o.context (in_use o.context s)
+    (used_own May b o.context s e) refl (switched_moves o s e h))
 
 -- a session of a 5GSM message is 1 to 15
 psi_is : (m n : ℕ) → psi_from m ≡ Some n → is_psi n ≡ true

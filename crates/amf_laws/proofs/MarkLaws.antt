@@ -4,7 +4,7 @@ use Rattle.std.proofs.lemmas.Bool.Decides.{nat_tests}
 use Rattle.milenage.specs.Home.{HomeRecord}
 use Rattle.amf_core.specs.Delivery.{freshened, received}
 use Rattle.amf_core.specs.Framing.{Framed, framed, framed_all}
-use Rattle.amf_core.specs.State.{AmfState, is_same_link, link_in}
+use Rattle.amf_core.specs.State.{AmfState, link_in}
 use Rattle.amf_core.specs.Step.{ended, started, worked}
 use Rattle.nas_timers.specs.Durations.{deadline_after, duration_of}
 use Rattle.amf_core.specs.Work.{Work, config_of, link_of, put, put_link}
@@ -25,7 +25,6 @@ use Rattle.amf_laws.proofs.FramedFit.Sends.{unsent, goes, counts}
 use Rattle.amf_laws.proofs.LinkRecords.{link_number, stays_unset, unset_link}
 use Rattle.amf_laws.proofs.Moves.{Beginning, Moves, Settled}
 use Rattle.amf_laws.proofs.Moves.Moves.{here, said, asked, starts, stops, puts, links, homes, numbers}
-use Rattle.amf_laws.proofs.PassedLaws.{freshened_at_start}
 use Rattle.amf_laws.proofs.TimerLaws.{any_may}
 use Rattle.amf_laws.specs.Passing.{SecuresWherePassing, Uplinks, has_passed}
 use Rattle.amf_laws.specs.Timers.{Running}

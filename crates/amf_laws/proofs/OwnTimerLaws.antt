@@ -1,7 +1,6 @@
 -- What goes out of a step starts and stops timers of procedures alone, names sessions 1 to 15, and is of subscribers that are kept.
-use Rattle.std.proofs.Common.{◌≡◌, refl, sym, ap, subst, ◌∙◌, inl, inr, ℕ, Bool, true, false, List, [], ◌∷◌, ◌++◌, Result, Ok, Err, if◌then◌else◌, Some, ◌⊎◌}
+use Rattle.std.proofs.Common.{◌≡◌, refl, sym, subst, ◌∙◌, ℕ, true, List, [], ◌∷◌, ◌++◌, Result, Ok, Err}
 use Rattle.std.specs.Prelude.{is_some}
-use Rattle.std.specs.Str.{bytes_eq}
 use Rattle.milenage.specs.Home.{HomeRecord}
 use Rattle.nas_security.specs.declared.sends.Pass.{Pass}
 use Rattle.nas_security.specs.declared.sends.Send.{Send}
@@ -25,10 +24,10 @@ use Rattle.amf_laws.proofs.Chains.Chain.{nothing, speaks, waits, passes, does}
 use Rattle.amf_laws.proofs.FitLaws.{chain_some}
 use Rattle.amf_laws.proofs.FramedFit.{Sends, says_send}
 use Rattle.amf_laws.proofs.FramedFit.Sends.{unsent, goes, counts}
-use Rattle.amf_laws.proofs.KeptLaws.{any_have}
 use Rattle.amf_laws.proofs.Moves.{Beginning, Moves}
 use Rattle.amf_laws.proofs.Moves.Moves.{here, said, asked, starts, stops, puts, links, homes, numbers}
 use Rattle.amf_laws.proofs.PassedLaws.{IsAtStart, pass_told}
+use Rattle.amf_laws.proofs.RecordLaws.{any_have}
 use Rattle.amf_laws.proofs.Records.{among_some}
 use Rattle.amf_laws.proofs.StepRows.{Comes, ComesBy, input_comes}
 use Rattle.amf_laws.proofs.StepRows.Comes.{chains, settles, stays}
@@ -65,7 +64,7 @@ act_more P [] act h new = (new, tt)
 act_more P (first ∷ acts) act h new = (h.0, act_more P acts act h.1 new)
 
 -- moves tell of their subscriber
-moves_tell : (P : AmfOut → Type 0) {May : List ℕ → Type 0} {b : Beginning} {p q : Running} {w : Work} → Tells P b.supi
+moves_tell : (P : AmfOut → Type 0) {May : List ℕ → Type 0} {b : Beginning} {p q : Running} {w : Work} → Tells P b.subscriber.supi
     → ActsTell P b.first.acts → Moves May b p q w → ActsTell P w.acts
 unfolding put put_link
 moves_tell P tells begin here = begin
@@ -115,7 +114,7 @@ comes_tell : (P : AmfOut → Type 0) {May : List ℕ → Type 0} (a : AmfState) 
 comes_tell P a w go (chains u at_start h) = chain_tells P a go at_start (start_tells P a u.first at_start) h
 comes_tell P a w go (settles b s one done) =
     moves_tell P
-    (subst (λ (y : List ℕ). Tells P y) (sym one.supi)
+    (subst (λ (y : Record). Tells P y.supi) (sym one.is)
     (go.tells s.supi (of_subscriber a b.first b.first s one.at_start refl (among_some s (kept_now b.first) one.among))))
     (start_tells P a b.first one.at_start) done.moves
 comes_tell P a w go (stays at_start) = start_tells P a w at_start

@@ -1,12 +1,10 @@
 -- What is told of passes, behind a row and behind a step.
-use Rattle.std.proofs.Common.{◌≡◌, refl, sym, ap, subst, inl, inr, ◌<◌, ℕ, Bool, false, List, [], ◌∷◌, ◌++◌, get_or, Option, Some, None}
+use Rattle.std.proofs.Common.{◌≡◌, refl, sym, subst, inl, inr, ◌<◌, ℕ, Bool, false, List, [], ◌∷◌, ◌++◌, get_or, Option, Some, None}
 use Rattle.nas_base.specs.declared.count.Dir.TheVariants.{Up}
 use Rattle.milenage.specs.Home.{HomeRecord}
-use Rattle.nas_security.specs.Contexts.{SecurityContext}
-use Rattle.nas_security.specs.Passing.{Passes}
 use Rattle.nas_security.specs.declared.sends.Pass.{Pass}
 use Rattle.mm_entity.proofs.OpeningLaws.{something_passes}
-use Rattle.mm_entity.specs.Opening.{Opened, opened}
+use Rattle.mm_entity.specs.Opening.{opened}
 use Rattle.amf_core.specs.Checks.{Passage, checked_in_use, checked_pending, passed_in_use, passed_pending}
 use Rattle.amf_core.specs.Delivery.{freshened, received}
 use Rattle.amf_core.specs.Framing.{Framed, framed, framed_all}

@@ -1,3 +1,4 @@
+pub mod Consistency
 pub mod Kept
 pub mod Lengths
 pub mod Others

@@ -1,5 +1,5 @@
 -- The timer of a procedure, and that of a transaction, runs exactly while it is open.
-use Rattle.std.proofs.Common.{◌≡◌, ◌∙◌, ◌^◌, ℕ, List, [], ◌∷◌, length, Bool, true, false, not, Option, Some, Result, Ok, Err, refl, sym, ap, subst}
+use Rattle.std.proofs.Common.{◌≡◌, ◌∙◌, ◌^◌, ℕ, List, [], ◌∷◌, length, true, false, not, Option, Some, Result, Ok, Err, refl, sym, ap, subst}
 use Rattle.nas_base.proofs.Branching.{when_holds}
 use Rattle.nas_base.specs.Values.{is_psi}
 use Rattle.nas_timers.specs.Names.{is_name}
@@ -12,7 +12,7 @@ use Rattle.ue_mm.proofs.CarryLaws.{carrying_sends_alone}
 use Rattle.ue_mm.proofs.StepLaws.{timers_have_owners}
 use Rattle.ue_mm.proofs.TimerLaws.{times_mobility}
 use Rattle.ue_mm.specs.Commands.{is_spent}
-use Rattle.ue_mm.specs.Laws.{AllTimeMobility, AreSends, Running, SendsAlone, TimersHaveOwners, TimesMobility, TimesMobilityAlone, running_after, running_at, running_in, running_with, with_timer}
+use Rattle.ue_mm.specs.Laws.{AllTimeMobility, AreSends, Running, SendsAlone, TimersHaveOwners, TimesMobility, TimesMobilityAlone, running_after, running_at, running_in, with_timer}
 use Rattle.ue_mm.specs.State.{view_of, word_of}
 use Rattle.ue_mm.specs.Step.{Stepped}
 use Rattle.ue_mm.specs.Step as mm_step
@@ -21,7 +21,7 @@ use Rattle.ue_mm.specs.declared.inputs.MmCommand.TheVariants as mm
 use Rattle.ue_mm.specs.declared.inputs.StepRefusal.{StepRefusal}
 use Rattle.ue_mm.specs.declared.inputs.StepRefusal.TheVariants as refusals
 use Rattle.ue_mm.specs.declared.inputs.UeInput.{UeInput}
-use Rattle.ue_mm.specs.declared.inputs.UeInput.TheVariants.{Command, Delivered, Expired, Dropped, Restart, Carry}
+use Rattle.ue_mm.specs.declared.inputs.UeInput.TheVariants.{Command, Expired, Restart, Carry}
 use Rattle.ue_mm.specs.declared.outs.UeOut.{UeOut}
 use Rattle.ue_mm.specs.declared.outs.UeOut.TheVariants as outs
 use Rattle.ue_sm.proofs.SessionCount.{sessions_stay_fifteen}
@@ -38,12 +38,12 @@ use Rattle.ue_sm.specs.declared.inputs.SmInput.TheVariants as inputs
 use Rattle.ue_sm.specs.declared.inputs.SmStepRefusal.{SmStepRefusal}
 use Rattle.ue_sm.specs.declared.outs.SmOut.{SmOut}
 use Rattle.ue_sm.specs.declared.outs.SmOut.TheVariants as sm_outs
-use Rattle.nas_handset.specs.Handset.{commanded, ended, may_begin_sessions, mm_commanded, mm_outcome, refusal_of, restarted, sessions_commanded, sessions_outcome}
+use Rattle.nas_handset.specs.Handset.{commanded, ended, may_begin_sessions, mm_commanded, mm_outcome, restarted, sessions_commanded, sessions_outcome}
 use Rattle.nas_handset.specs.Owners.{HaveOwners, IsNoExpiry, names_session, running_of, session_running_of}
 use Rattle.nas_handset.specs.State.{HandsetState}
 use Rattle.nas_handset.specs.TakingOver.{FollowsCommand, TurnChanges, taken_over}
 use Rattle.nas_handset.specs.Ticks.{expired, fired, is_due}
-use Rattle.nas_handset.specs.Turns.{Turn, all_passed_on, all_taken, all_taken_of_sessions, begun, carried, carried_onto, onto, passed_on, sent, sessions_onto, sessions_stepped, sessions_turned, stepped, taken_of_session, timed, turned, untimed, with_mm, with_sm}
+use Rattle.nas_handset.specs.Turns.{Turn, all_passed_on, all_taken, all_taken_of_sessions, begun, carried, carried_onto, onto, passed_on, sent, sessions_onto, sessions_stepped, sessions_turned, stepped, timed, turned, untimed, with_mm, with_sm}
 use Rattle.nas_handset.specs.declared.command.CommandRefusal.{CommandRefusal}
 use Rattle.nas_handset.specs.declared.command.CommandRefusal.TheVariants.{WrongState, Spent}
 use Rattle.nas_handset.specs.declared.command.UeCommand.{UeCommand}
@@ -55,7 +55,7 @@ use Rattle.nas_handset.proofs.Running.{not_of_mobility, not_of_session, session_
 record StaysOpen (t new : Turn) : Type 0 where
   timers : new.handset.timers ≡ t.handset.timers
   phase : new.handset.mm.phase ≡ t.handset.mm.phase
-  sessions : new.handset.sm ≡ t.handset.sm
+  unchanged : new.handset.sm ≡ t.handset.sm
 
 sends_stay : (list : List UeOut) (t : Turn) → AreSends list → (all_taken list t).handset ≡ t.handset
 sends_stay [] t alone = refl
@@ -76,7 +76,7 @@ carried_by (Ok s) t alone =
     record {
       timers = ap (λ (h : HandsetState). h.timers) same;
       phase = ap (λ (h : HandsetState). h.mm.phase) same ∙ alone.1;
-      sessions = ap (λ (h : HandsetState). h.sm) same;
+      unchanged = ap (λ (h : HandsetState). h.sm) same;
     }
 carried_by (Err refusal) t alone = absurd alone
 
@@ -90,18 +90,18 @@ carried_stays psi dnn frame t =
 record After (list : List SmOut) (t new : Turn) : Type 0 where
   procedures : running_of new.handset.timers ≡ running_of t.handset.timers
   phase : new.handset.mm.phase ≡ t.handset.mm.phase
-  sessions : new.handset.sm ≡ t.handset.sm
+  unchanged : new.handset.sm ≡ t.handset.sm
   transactions : (psi : ℕ) → session_running_of psi new.handset.timers ≡ sessions.running_after psi list (session_running_of psi t.handset.timers)
 
 all_after : (list : List SmOut) (t : Turn) → AllTimeSessions list → After list t (all_taken_of_sessions list t)
-all_after [] t alone = record { procedures = refl; phase = refl; sessions = refl; transactions = λ psi. refl }
+all_after [] t alone = record { procedures = refl; phase = refl; unchanged = refl; transactions = λ psi. refl }
 all_after (sm_outs.Carry psi dnn frame ∷ list) t alone =
     let rest = all_after list (carried psi dnn frame t) alone.1 in
     let same = carried_stays psi dnn frame t in
     record {
       procedures = rest.procedures ∙ ap running_of same.timers;
       phase = rest.phase ∙ same.phase;
-      sessions = rest.sessions ∙ same.sessions;
+      unchanged = rest.unchanged ∙ same.unchanged;
       transactions = λ q. rest.transactions q
           ∙ ap (λ (ts : List timers.Running). sessions.running_after q list (session_running_of q ts)) same.timers;
     }
@@ -110,7 +110,7 @@ all_after (sm_outs.Start id at ∷ list) t alone =
     record {
       procedures = rest.procedures ∙ (starts id at t.handset.timers ∙ not_of_mobility id true (running_of t.handset.timers) alone.0);
       phase = rest.phase;
-      sessions = rest.sessions;
+      unchanged = rest.unchanged;
       transactions = λ q. rest.transactions q ∙ ap (sessions.running_after q list) (session_starts q id at t.handset.timers);
     }
 all_after (sm_outs.Stop id ∷ list) t alone =
@@ -118,7 +118,7 @@ all_after (sm_outs.Stop id ∷ list) t alone =
     record {
       procedures = rest.procedures ∙ (stops id t.handset.timers ∙ not_of_mobility id false (running_of t.handset.timers) alone.0);
       phase = rest.phase;
-      sessions = rest.sessions;
+      unchanged = rest.unchanged;
       transactions = λ q. rest.transactions q ∙ ap (sessions.running_after q list) (session_stops q id t.handset.timers);
     }
 
@@ -143,11 +143,11 @@ sessions_done s input t step named fifteen runs =
     record {
       procedures = after.procedures;
       phase = after.phase;
-      fifteen = ap (λ (x : SmState). length x.cells) after.sessions
+      fifteen = ap (λ (x : SmState). length x.cells) after.unchanged
           ∙ sessions_stay_fifteen t.handset.sm t.handset.moment input s fifteen step;
       transactions = λ psi is. after.transactions psi ∙ ap (sessions.running_after psi s.outs) (runs psi is)
           ∙ timers_run t.handset.sm t.handset.moment input fifteen named psi s is step
-          ∙ ap (λ (x : SmState). sessions.running_in (cell_of psi x)) (sym after.sessions);
+          ∙ ap (λ (x : SmState). sessions.running_in (cell_of psi x)) (sym after.unchanged);
     }
 
 sessions_by : (step : Result sm.Stepped SmStepRefusal) (input : SmInput) (t : Turn) → sessions_stepped input t ≡ step
@@ -296,7 +296,7 @@ session_expired : (id : TimerId) (t : Turn) → is_name id ≡ true → ((r : Ru
     → HaveOwners t.handset → HaveOwners (sessions_turned (inputs.Expired id) (untimed id t)).handset
 session_expired id t named apart owned =
     let kept = sessions_kept (inputs.Expired id) (untimed id t) tt named owned.fifteen
-        (λ psi is. session_stops psi id t.handset.timers ∙ ap (sessions.with_timer psi id false) (owned.transactions psi is)) in
+    (λ psi is. session_stops psi id t.handset.timers ∙ ap (sessions.with_timer psi id false) (owned.transactions psi is)) in
     record {
       fifteen = kept.fifteen;
       procedures = kept.procedures ∙ stops id t.handset.timers ∙ apart (running_of t.handset.timers) ∙ owned.procedures

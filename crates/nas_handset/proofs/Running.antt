@@ -1,5 +1,5 @@
 -- What the start and the stop of a timer does to those that run.
-use Rattle.std.proofs.Common.{◌≡◌, ◌∙◌, ℕ, Bool, true, false, cond, List, [], ◌∷◌, Option, Some, None, is_some, refl, ap}
+use Rattle.std.proofs.Common.{◌≡◌, ℕ, Bool, true, false, cond, List, Some, None, is_some, refl}
 use Rattle.std.specs.Prelude.{◌==◌}
 use Rattle.nas_base.specs.Branches.{chosen, when◌then◌else◌}
 use Rattle.nas_timers.specs.Timers as timers

@@ -12,7 +12,9 @@ pub enum UeCommand {
     /// To request service (clause 5.6.1).
     Service,
     /// To deregister, perhaps since it is switched off (clause 5.5.2.2).
-    Deregister { switch_off: bool },
+    Deregister {
+        switch_off: bool,
+    },
     /// To establish a PDU session of a type, to a data network (clause 6.4.1.2).
     Establish {
         psi: Psi,
@@ -20,9 +22,14 @@ pub enum UeCommand {
         dnn: Dnn,
     },
     /// To modify the QoS rules of a PDU session (clause 6.4.2.2).
-    Modify { psi: Psi, ops: RuleOps },
+    Modify {
+        psi: Psi,
+        ops: RuleOps,
+    },
     /// To release a PDU session (clause 6.4.3.2).
-    Release { psi: Psi },
+    Release {
+        psi: Psi,
+    },
 }
 
 /// Why a command was refused: the first of these that holds, in this order.

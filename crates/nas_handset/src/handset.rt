@@ -7,7 +7,7 @@ ghost use Rattle.nas_handset.specs.TakingOver.{CommandsTurning, FollowsCommand, 
 ghost use Rattle.nas_handset.specs.Ticks.{ticked};
 ghost use Rattle.nas_handset.specs.Turns.{begun, turned};
 ghost use Rattle.ue_mm.specs.Commands.{is_spent};
-ghost use Rattle.ue_mm.specs.State.{view_of};
+ghost use Rattle.ue_mm.specs.State.{state_of, view_of};
 ghost use Rattle.ue_sm.specs.Cells.{session_of, word_of};
 ghost use Rattle.ue_sm.specs.State.{cell_of};
 
@@ -60,11 +60,11 @@ impl Handset {
     pub fn new(alloc: Global, config: &HandsetConfig) -> Result<Handset, Memory>
         ensures { IfOk result (λ handset. handset ≡ first config.now) }
     {
-        let sm = UeSm::new(alloc, &config.durations)?;
+        let (mm, sm, timers) = parts(alloc, config)?;
         Ok(Handset {
-            mm: UeMm::new(config),
+            mm,
             sm,
-            timers: Timers::new(),
+            timers,
             moment: Moment(0),
         })
     }
@@ -251,11 +251,7 @@ impl Handset {
 
     // The turn of a command while it goes on: a command is 5GMM's or the sessions'.
     #[tactic(auto, unfolding(crate::specs::Handset::commanded))]
-    fn commanding(
-        &self,
-        alloc: Global,
-        command: &UeCommand,
-    ) -> Result<Turning<'_>, CommandRefusal>
+    fn commanding(&self, alloc: Global, command: &UeCommand) -> Result<Turning<'_>, CommandRefusal>
         ensures { CommandsTurning self.now result (commanded command.now self.now) }
     {
         match command {
@@ -381,6 +377,14 @@ impl Handset {
         let turning = Turning::begin(alloc, self, self.moment);
         turning.end()
     }
+}
+
+// What a handset begins with, but for its moment.
+fn parts(alloc: Global, config: &HandsetConfig) -> Result<(UeMm, UeSm, Timers), Memory>
+    ensures { IfOk result (λ parts. record { mm = state_of parts.0; sm = parts.1; timers = parts.2; moment = 0 } ≡ first config.now) }
+{
+    let sm = UeSm::new(alloc, &config.durations)?;
+    Ok((UeMm::new(config), sm, Timers::new()))
 }
 
 // A command to a session has one that there is.

@@ -141,11 +141,7 @@ impl<'a> Turning<'a> {
     }
 
     /// The step of an input to the sessions, but for what goes out of it.
-    pub fn reach_sessions(
-        &mut self,
-        alloc: Global,
-        input: SmInput,
-    ) -> Result<SmOuts, SmStepRefusal>
+    pub fn reach_sessions(&mut self, alloc: Global, input: SmInput) -> Result<SmOuts, SmStepRefusal>
         ensures { ReachesSessions self.old self.new result (sessions_stepped input self.old.turn) }
     {
         let before = self.before;

@@ -1,5 +1,5 @@
 -- What the changes of steps make of what was kept before them.
-use Rattle.std.proofs.Common.{◌≡◌, ◌<◌, ◌-◌, refl, sym, ◌∙◌, ap, Bool, true, false, ℕ, List, [], ◌∷◌, ◌++◌, length, Option, Some, None, is_some, if◌then◌else◌, arith, get_or-set_same, get_or-set_other, length-set, unwrap_or}
+use Rattle.std.proofs.Common.{◌≡◌, ◌<◌, ◌-◌, refl, sym, ◌∙◌, ap, subst, Bool, true, false, ℕ, List, [], ◌∷◌, ◌++◌, length, Option, Some, None, is_some, option_map, if◌then◌else◌, arith, get_or-set_same, get_or-set_other, length-set, unwrap_or}
 use Rattle.std.specs.Str.{bytes_eq}
 use Rattle.std.specs.Prelude.{◌==◌, ◌&&◌, slice_index_or, slice_set}
 use Rattle.std.specs.List.{list_all}
@@ -8,7 +8,7 @@ use Rattle.nas_base.specs.Values.{is_psi}
 use Rattle.nas_elements.specs.declared.address.Address.{Address}
 use Rattle.nas_pools.specs.Pools.{PoolsParts, freed, take_of}
 use Rattle.smf_core.proofs.Moves.{others_found, put_leaves_others, same_octets}
-use Rattle.smf_core.specs.Drafts.{ChangeLists, Drafted, Takes, TakesFrom, by, changed, has_identity, newest, with_cells, with_changed, with_changes}
+use Rattle.smf_core.specs.Drafts.{ChangeLists, DraftState, Drafted, Takes, TakesFrom, by, changed, has_identity, newest, with_cells, with_changed, with_changes}
 use Rattle.smf_core.specs.State.{SmfState, cell_at, cell_of, dnns_at, dnns_of, is_held, is_subscriber, put_cell, slices_at, slices_of, subscriber_in, vacant, with_cell}
 use Rattle.smf_core.specs.Work.{give, put, with_pools}
 use Rattle.smf_core.specs.declared.acts.Act.{Act}
@@ -51,6 +51,12 @@ changed_pools cs p pools smf = with_changed_pools p pools (with_cells cs smf)
 pub changed_nothing : (smf : SmfState) → changed (record { cells = []; pools = None }) smf ≡ smf
 unfolding changed
 changed_nothing smf = refl
+
+pub begun : (cs : List ChangedCell) (smf : SmfState) → cs ≡ [] → changed (record { cells = cs; pools = None }) smf ≡ smf
+begun cs smf e = ap (λ (x : List ChangedCell). changed (record { cells = x; pools = None }) smf) e ∙ changed_nothing smf
+
+abbrev pub at_draft : SmfState → SmfState → DraftState
+at_draft before smf = record { smf = smf; before = before }
 
 -- what a change of cells leaves
 with_cells_config : (cs : List ChangedCell) (smf : SmfState) → (with_cells cs smf).config ≡ smf.config
@@ -295,6 +301,14 @@ pub subscriber_changed : (supi : List ℕ) (c : ChangeLists) (smf : SmfState)
     → is_subscriber supi (changed c smf) ≡ is_subscriber supi smf
 unfolding changed
 subscriber_changed supi c smf = there_now supi c.pools (with_cells c.cells smf) ∙ there_after supi c.cells smf
+
+-- a record that was looked for
+pub found_as : {A B : Type 0} (f : A → B) (o : Option A) (x : A) (p : Option B) → option_map f o ≡ p → o ≡ Some x → p ≡ Some (f x)
+found_as {A} f o x p e is = subst (λ (y : Option A). p ≡ option_map f y) is (sym e)
+
+pub found_none : {A B : Type 0} (f : A → B) (o : Option A) (p : Option B) → option_map f o ≡ p → o ≡ None → is_some p ≡ false
+found_none {A} {B} f o p e none =
+    subst (λ (x : Option B). is_some x ≡ false) e (ap (λ (x : Option A). is_some (option_map f x)) none)
 
 -- who is no subscriber has no session
 none_held : (supi : List ℕ) (psi : ℕ) (smf : SmfState) (found : Option Subscriber) → subscriber_in supi smf.subscribers ≡ found

@@ -9,7 +9,7 @@ use Rattle.smf_core.specs.Drafts.{ChangeLists, changed, with_changes}
 use Rattle.smf_core.specs.Laws.{SessionsStay, names_one}
 use Rattle.smf_core.specs.Sessions.{AreSessions}
 use Rattle.smf_core.specs.State.{SmfState, is_subscriber}
-use Rattle.smf_core.specs.Step.{EndedState, Ends, Stepped, finished, started, worked}
+use Rattle.smf_core.specs.Step.{Stepped, finished, started, worked}
 use Rattle.smf_core.specs.Work.{Working}
 use Rattle.smf_core.specs.declared.config.Configured.{Configured}
 use Rattle.smf_core.specs.declared.subscriber.Subscriber.{Subscriber}
@@ -30,16 +30,10 @@ sessions_stay smf now supi input are some one =
     finished_sessions smf now supi input (worked input (started smf now supi)) are some one
     (worked_goes (started smf now supi) input)
 
--- what is followed
-pub followed_sessions : (before : SmfState) (r : Result EndedState SmfRefusal) (done : EndedState) (step : Result Stepped SmfRefusal)
-    → r ≡ Ok done → Ends before r step
-    → IfOk step (λ (s : Stepped). AreSessions s.smf)
-    → AreSessions done.step.smf
-followed_sessions before (Ok got) done step is ends are =
-    let same : got ≡ done = cc in
-    subst (λ (d : EndedState). AreSessions d.step.smf) same
-    (subst (λ (t : Result Stepped SmfRefusal). IfOk t (λ (s : Stepped). AreSessions s.smf)) ends.0 are)
-followed_sessions before (Err refusal) done step is ends are = absurd (cc)
+-- what a step leaves
+pub left_sessions : (step : Result Stepped SmfRefusal) (new : Stepped) → step ≡ Ok new → IfOk step (λ (s : Stepped). AreSessions s.smf)
+    → AreSessions new.smf
+left_sessions step new e are = subst (λ (t : Result Stepped SmfRefusal). IfOk t (λ (s : Stepped). AreSessions s.smf)) e are
 
 -- what is taken over
 pub taken_over : (c : ChangeLists) (smf : SmfState) (config : Configured) (pools : PoolsParts) (subscribers : List Subscriber)

@@ -1,6 +1,7 @@
 //! What steps changed of what an SMF keeps, and the one place where their changes are taken over.
-ghost use Rattle.std.specs.Prelude.{◌≡◌, ◌∷◌, ◌++◌, [], unwrap_or, OnErr, OnOk};
-ghost use Rattle.smf_core.specs.Drafts.{changed, is_at, newest, with_changes};
+ghost use Rattle.std.specs.Prelude.{◌≡◌, true, ◌∷◌, ◌++◌, [], unwrap_or, OnErr, OnOk};
+ghost use Rattle.std.specs.List.{list_all};
+ghost use Rattle.smf_core.specs.Drafts.{changed, has_identity, is_at, newest, with_changes};
 ghost use Rattle.smf_core.specs.Sessions.{AreSessions};
 ghost use Rattle.smf_core.specs.State.{with_cell};
 
@@ -46,12 +47,7 @@ fn is_at(change: &ChangedCell, supi: &Supi, psi: Psi) -> bool
 }
 
 /// The cell of a subscriber's identity after these changes. It walks over them.
-pub fn newest<'b>(
-    supi: &Supi,
-    psi: Psi,
-    changed: &'b [ChangedCell],
-    kept: &'b Cell,
-) -> &'b Cell
+pub fn newest<'b>(supi: &Supi, psi: Psi, changed: &'b [ChangedCell], kept: &'b Cell) -> &'b Cell
     ensures { result.now ≡ newest supi.now psi changed.now kept.now }
 {
     match changed {
@@ -106,6 +102,20 @@ fn take_pools(kept: &mut Pools, changed: Option<Pools>)
 }
 
 impl Changes {
+    /// The cell of a subscriber's identity after these changes.
+    pub(crate) fn by_now<'b>(&'b self, supi: &Supi, psi: Psi, kept: &'b Cell) -> &'b Cell
+        ensures { result.now ≡ newest supi.now psi self.now.cells kept.now }
+    {
+        newest(supi, psi, self.cells.as_slice(), kept)
+    }
+
+    /// Says that the identities of the cells are some.
+    pub(crate) fn names_identities(&self)
+        ensures { list_all has_identity self.now.cells ≡ true }
+    {
+        let _cells = &self.cells;
+    }
+
     /// An SMF becomes what these changes make of it. It takes no memory, and costs a walk over the SUPIs for each cell that changed.
     pub fn take_over(self, smf: &mut Smf)
         requires { AreSessions (changed self smf.old) }

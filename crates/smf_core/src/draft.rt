@@ -129,12 +129,18 @@ impl<'a> Draft<'a> {
     {
         let _number = psi.0;
         let before = self.before;
-        let Some(subscriber) = before.subscriber(supi) else {
-            return false;
-        };
-        subscriber.cells.whole();
-        let cells = self.changes.cells.as_slice();
-        newest(supi, psi, cells, subscriber.cells.at(psi)).held.is_some()
+        match before.subscriber(supi) {
+            Some(subscriber) => {
+                subscriber.cells.whole();
+                let changes = &self.changes;
+                changes.names_identities();
+                changes
+                    .by_now(supi, psi, subscriber.cells.at(psi))
+                    .held
+                    .is_some()
+            }
+            None => false,
+        }
     }
 
     /// What the steps changed.
@@ -204,6 +210,7 @@ fn give_to(pools: &mut Pools, address: &Address)
 
 impl<'a> Work<'a> {
     /// A step at its start, on what steps before it left.
+    #[tactic(auto, using(crate::proofs::Drafting::subscriber_changed))]
     pub fn new(alloc: Global, draft: Draft<'a>, now: Moment, supi: &Supi) -> Work<'a>
         requires { is_subscriber supi.now draft.smf ≡ true }
         ensures { result ≡ record { work = started draft.entry.smf now supi.now; before = draft.entry.before } }
@@ -266,7 +273,12 @@ impl<'a> Work<'a> {
     {
         let _number = psi.0;
         let subscriber = self.subscriber;
-        newest(&self.supi, psi, self.cells.as_slice(), subscriber.cells.at(psi))
+        newest(
+            &self.supi,
+            psi,
+            self.cells.as_slice(),
+            subscriber.cells.at(psi),
+        )
     }
 
     /// Another cell takes its place.

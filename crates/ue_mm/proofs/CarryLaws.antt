@@ -1,5 +1,5 @@
 -- A message of a session that is carried is sent alone.
-use Rattle.std.proofs.Common.{◌≡◌, refl, ℕ, Bool, false, List, [], Option, Ok}
+use Rattle.std.proofs.Common.{refl, ℕ, Bool, false, List, [], Option, Ok}
 use Rattle.nas_base.proofs.Branching.{per_holds, when_holds}
 use Rattle.nas_base.specs.declared.count.Dir.TheVariants.{Up}
 use Rattle.mm_messages.specs.Messages.{spelling}

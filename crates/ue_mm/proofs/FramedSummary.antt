@@ -141,11 +141,14 @@ timer_goes_out : (own : Bool) (out : UeOut) (s other : Summary) (f : Framed) →
     → GoesOut s (record (summed_out out other) { sent = unless_other own other.sent }) (record f { outs = f.outs ++ out ∷ [] })
 timer_goes_out own out s other f same h =
     let smaller = (out_goes_out out s other f h).smaller in
-    record { smaller = record {
-      running = smaller.running;
-      started = smaller.started;
-      sent = within_unless own _ other.sent (subst (λ (n : Sent). IsWithin _ n) same smaller.sent);
-    } }
+    record {
+      smaller = record {
+        running = smaller.running;
+        started = smaller.started;
+        sent = within_unless own (summed_outs (f.outs ++ out ∷ []) s).sent other.sent
+            (subst (λ (n : Sent). IsWithin (summed_outs (f.outs ++ out ∷ []) s).sent n) same smaller.sent);
+      };
+    }
 
 act_goes_out : (supi : List ℕ) (act : Act) (s other : Summary) (f : Framed) → GoesOut s other f
     → GoesOut s (summed_act act other) (framed supi act f)

@@ -1,5 +1,5 @@
 -- A step keeps the number of sessions.
-use Rattle.std.proofs.Common.{◌≡◌, refl, subst, ℕ, zero, suc, Bool, List, length, Some, None, Result, Ok, Err}
+use Rattle.std.proofs.Common.{◌≡◌, subst, ℕ, zero, suc, Bool, List, length, Some, None, Result, Ok, Err}
 use Rattle.std.specs.Prelude.{◌==◌, nat_lt}
 use Rattle.nas_base.proofs.Branching.{per_holds, when_holds}
 use Rattle.nas_base.specs.Branches.{per}

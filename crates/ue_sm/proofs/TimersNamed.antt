@@ -1,8 +1,8 @@
 -- A step starts and stops timers of the sessions' transactions alone.
-use Rattle.std.proofs.Common.{◌≡◌, ◌≤◌, refl, subst, sym, arith, ℕ, zero, suc, Bool, true, List, [], ◌∷◌, ◌++◌, Some, None, Option, Result, Ok, Err}
+use Rattle.std.proofs.Common.{◌≡◌, ◌≤◌, subst, arith, ℕ, zero, suc, Bool, true, List, [], ◌∷◌, ◌++◌, Some, None, Result, Ok, Err}
 use Rattle.std.specs.Prelude.{◌==◌, nat_lt}
 use Rattle.nas_base.proofs.Branching.{per_holds, when_holds}
-use Rattle.nas_base.specs.Branches.{per, when◌then◌else◌}
+use Rattle.nas_base.specs.Branches.{per}
 use Rattle.nas_base.specs.Values.{is_psi}
 use Rattle.nas_qos.specs.Applying.{all_applied}
 use Rattle.nas_qos.specs.Operations.{Operation}
@@ -86,8 +86,10 @@ some_time w new h some = moves_time some.session w some.named h some.moves
 requests_time : (n : ℕ) (id : TimerId) (t : OpenTransaction) (w : Work) → is_of_session id ≡ true → TimesAlone w
     → TimesAlone (start id (send n t w))
 requests_time n id t w is h =
-    record { outs = out_more (send n t w).outs (Start id (deadline_after w.moment (duration_of id w.state.durations)))
-    (out_more w.outs (Carry n t.dnn (spelling t.request)) h.outs tt) is }
+    record {
+      outs = out_more (send n t w).outs (Start id (deadline_after w.moment (duration_of id w.state.durations)))
+          (out_more w.outs (Carry n t.dnn (spelling t.request)) h.outs tt) is;
+    }
 
 begun_times : (n : ℕ) (id : TimerId) (c : Cell) (t : OpenTransaction) (w : Work) → is_of_session id ≡ true → TimesAlone w
     → TimesAlone (begun n id c t w)
