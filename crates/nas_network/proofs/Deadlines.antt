@@ -1,5 +1,6 @@
 -- What starts and stops does to the deadline of a timer.
-use Rattle.std.proofs.Common.{◌≡◌, ◌∙◌, ap, refl, sym, ℕ, Bool, true, false, ◌&&◌, cond, List, [], ◌∷◌, ◌++◌, Option, None, Some, if◌then◌else◌}
+use Rattle.std.proofs.Common.{◌≡◌, ◌∙◌, ap, refl, sym, ℕ, Bool, true, false, ◌&&◌, cond, ◌<◌, ◌+◌, List, [], ◌∷◌, ◌++◌, length, take, get_or, Option, None, Some, if◌then◌else◌}
+use Rattle.std.proofs.lemmas.List.{take_more}
 use Rattle.std.specs.Str.{bytes_eq}
 use Rattle.nas_timers.specs.Names.{same_name}
 use Rattle.nas_timers.specs.Timers.{Running, deadline_of, started, stopped}
@@ -61,3 +62,12 @@ pub deadline_next : (x : List ℕ) (name : TimerId) (cs : List TimerChange) (c :
 deadline_next x name cs c ss at there is =
     ap (deadline_by c x name) is ∙ sym (deadline_changed x name c (timers_after cs ss) (all_timed x cs ss ∙ there))
     ∙ sym (ap (deadline_for x name) (changed_last cs c ss))
+
+-- the same where it is the next of a list
+pub deadline_on : (x : List ℕ) (name : TimerId) (cs : List TimerChange) (i : ℕ) (c : TimerChange) (ss : List SubscriberTimers) (at : Option ℕ)
+    → is_timed x ss ≡ true → i < length cs → c ≡ get_or cs i c → at ≡ deadline_for x name (timers_after (take i cs) ss)
+    → deadline_by c x name at ≡ deadline_for x name (timers_after (take (i + 1) cs) ss)
+deadline_on x name cs i c ss at there within item is =
+    deadline_next x name (take i cs) c ss at there is
+    ∙ ap (λ (ds : List TimerChange). deadline_for x name (timers_after ds ss))
+    (ap (λ (d : TimerChange). take i cs ++ d ∷ []) item ∙ sym (take_more cs i c within))
