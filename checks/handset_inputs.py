@@ -1,6 +1,7 @@
 """Octets for a handset that handset.py and mobility.py send: messages of a network, in frames or plain, as they are or changed."""
 from elements import mutated
 from frame_inputs import CAPABILITIES, CAUSES, LONGEST_MESSAGE, Frames
+from sessions_inputs import SessionNetwork
 
 GUTIS = ["f200f11002004000000001", "f200f1100200400000abcd", "f221436520ff123456789a"]
 NO_GUTIS = ["f4004000000001", "0100f110f0ff00000000000010", "f200f110020040000000", ""]
@@ -22,6 +23,7 @@ class Network(Frames):
     def __init__(self, rng, crypto, codec, handset):
         super().__init__(rng, crypto, False)
         self.codec, self.handset = codec, handset
+        self.sessions = SessionNetwork(rng, handset)
         self.challenges = []  # AUTHENTICATION REQUESTs
         self.contexts = []  # contexts that were in use
 
@@ -91,8 +93,18 @@ class Network(Frames):
             elements.append(rng.choice(INDICATIONS) + self.name())
         return bytes.fromhex("7e0054" + "".join(elements) + rng.choice(EXTRAS))
 
+    def session_message(self):
+        """A DL NAS TRANSPORT with a message to a session, or with one of the handset's that comes back."""
+        returns = self.chance(0.12)
+        container = self.sessions.returned() if returns else self.sessions.frame()
+        beside = "" if self.chance(0.5) else f"12{self.sessions.psi():02x}"
+        elements = bytes.fromhex(beside + (f"58{self.rng.choice([90, 91, 22]):02x}" if returns else ""))
+        return bytes([0x7E, 0, 0x68, 1]) + len(container).to_bytes(2, "big") + container + elements
+
     def transport(self):
         rng = self.rng
+        if self.chance(0.5):
+            return self.session_message()
         size = rng.choice([0, 1, 3, 4, 9, 60])
         if self.chance(0.03):
             size = rng.choice([4080, 4081, LONGEST_MESSAGE - 6])
@@ -153,6 +165,10 @@ class Network(Frames):
             made = self.again()
         return mutated(self.rng, self.any_message()) if made is None else made
 
+    def has_open(self):
+        """Whether a session has an open transaction."""
+        return any(place.trans for place in self.handset.psis[1:])
+
     def next_in_line(self):
         """What a network sends next in a procedure that goes well, or nothing."""
         handset = self.handset
@@ -175,6 +191,8 @@ class Network(Frames):
             return self.under_current(bytes.fromhex("7e004e" if self.chance(0.7) else f"7e004d{self.rng.choice(CAUSES):02x}"))
         if word == "Deregistering":
             return self.under_current(bytes([0x7E, 0, 0x46]))
+        if self.has_open() and self.chance(0.75):
+            return self.under_current(self.session_message())
         if handset.pending:
             return self.command_frame()
         message = self.rng.choice([self.challenge, self.transport, self.transport, self.accept, self.update])()
@@ -184,6 +202,8 @@ class Network(Frames):
         """What reaches the handset next."""
         if self.handset.current and self.chance(0.08):
             return self.under_current(self.update())
+        if self.handset.secure and self.has_open() and self.chance(0.5):
+            return self.under_current(self.session_message())
         made = self.next_in_line() if self.chance(0.6) else None
         return self.any_string() if made is None else made
 

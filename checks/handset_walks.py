@@ -1,6 +1,7 @@
 """Random walks of a handset beside an executable model."""
 from handset_inputs import Network
 from probe import text
+from sessions import fault_text
 from walks import Walk, compare
 
 COMMANDS = {
@@ -10,6 +11,14 @@ COMMANDS = {
     "service": ("service",),
     "deregister": ("deregister", False),
     "switch-off": ("deregister", True),
+}
+REFUSALS = {
+    "WrongState": "wrong_state",
+    "NoSuchSession": "no_such_session",
+    "SessionThere": "session_there",
+    "Busy": "busy",
+    "NoPti": "no_pti",
+    "Spent": "spent",
 }
 
 
@@ -53,14 +62,18 @@ class HandsetWalk(Walk):
         try:
             act()
         except self.model.Refused as refusal:
-            name = {"WrongState": "wrong_state", "Spent": "spent"}[refusal.name]
-            refused = f"{name}:{refusal.args[1]}"
+            refused = self.refusal(refusal)
         if before is not None and before is not handset.current:
             self.network.contexts.append(before)
         self.end_step(word, self.seen(refused))
 
-    def command(self, word):
-        self.step(word, lambda: self.handset.command(COMMANDS[word]))
+    def refusal(self, refused):
+        if refused.name == "Qos":
+            return fault_text(self.codec, refused.args[1])
+        return f"{REFUSALS[refused.name]}:{refused.args[1]}"
+
+    def command(self, word, *command):
+        self.step(word, lambda: self.handset.command(command or COMMANDS[word]))
 
     def any_command(self):
         self.command(self.rng.choice(list(COMMANDS)))

@@ -4,7 +4,7 @@ Each step compares what is sent, octet for octet, in order, with its link and it
 that can be seen of each subscriber. Which timers run is seen by ticks, at their deadlines and just before. Handsets of the model
 register with it, two of one subscriber and one of none, over links that lose, repeat and change what they carry; other octets come beside.
 
-The model has sessions, which the network hasn't yet: so what it does with their messages is replaced by nothing.
+Sessions that have changed in the model are looked at behind a step, sometimes another one, and all of them at the end of a walk.
 
 usage: network.py MODEL PROBE [WALKS [SEED]]
 """
@@ -16,10 +16,16 @@ from handset_walks import COMMANDS
 from network_ends import Phone, Subscribed
 from network_inputs import Handsets
 from probe import text
+from qos import operation, operations
+from sessions import fault_text
+from sessions_inputs import AMBRS
+from smf import network_session_text
+from smf_inputs import DNNS
 from walks import Answered, Walk, compare
 
 # Commands to the network, and the refusals that tell a 5G-TMSI.
 ORDERS = ["authenticate", "deregister", "update", "update"]
+SESSION_REFUSALS = {"NoSuchSession": "no_such_session", "SessionBusy": "session_busy", "Settling": "settling"}
 TMSI_REFUSALS = {"Uncompleted": "uncompleted", "Updated": "updated", "TmsiSpent": "tmsi_spent"}
 SENSIBLE = ["mobility", "mobility", "periodic", "periodic", "service", "service", "service", "deregister", "switch-off"]
 
@@ -31,14 +37,15 @@ class NetworkWalk(Walk):
         super().__init__(rng)
         self.model = model
         made = Subscribed(rng, model)
-        self.network = self.observed()(made.config)
+        self.network = model.net.Network(made.config)
+        self.looked_at = {}
         self.words += made.words()
         owners = made.subscribers + [made.subscribers[0], made.stranger()]
         links = rng.sample([1, 2, 3, 4, 33, 64], len(owners))
         self.phones = [self.new_phone(made.handset(owner), link) for owner, link in zip(owners, links)]
         self.others = Handsets(rng, model.crypto, model.codec, self.network)
         self.phone, self.rand = rng.choice(self.phones), bytes(16)
-        self.calm = rng.choice([0, 8, 8, 16])  # so many steps of one handset at the beginning
+        self.calm = rng.choice([0, 8, 16, 24])  # so many steps of one handset at the beginning
 
     def new_phone(self, config, link):
         """A handset that was just made. Some have a 5G-GUTI of another network."""
@@ -46,15 +53,6 @@ class NetworkWalk(Walk):
         if self.chance(0.15):
             handset.guti = self.model.codec.Guti(config.plmn, *self.rng.choice([(2, 64, 1), (1, 64, 2), (2, 65, 3)]))
         return Phone(handset, link)
-
-    def observed(self):
-        """The model's network, without sessions."""
-
-        class Observed(self.model.net.Network):
-            def _smf_frame(self, *frame):
-                pass
-
-        return Observed
 
     # what can be seen of the model, in machine_probe's words
 
@@ -95,8 +93,37 @@ class NetworkWalk(Walk):
                     phone.came.append(send.octets)
         self.deadlines.update(network.timers.values())
         self.end_step(word, self.seen(refused))
+        self.look()
+
+    def session(self, record, psi):
+        kept = record.sessions.get(psi)
+        return network_session_text(self.model.codec, psi, kept) if kept else "none"
+
+    def look_at(self, record, psi):
+        seen = self.session(record, psi)
+        self.looked_at[record.supi, psi] = seen
+        self.end_look(f"session:{record.supi}:{psi}", seen)
+
+    def look(self):
+        for record in self.network.subs.values():
+            for psi in range(1, 16):
+                if self.session(record, psi) != self.looked_at.get((record.supi, psi), "none") or self.chance(0.005):
+                    self.look_at(record, psi)
+
+    def lasting(self, length):
+        super().lasting(length)
+        for record in self.network.subs.values():
+            for psi in range(1, 16):
+                self.look_at(record, psi)
+        return self
 
     def refusal(self, refusal):
+        if refusal.name == "Qos":
+            return fault_text(self.model.codec, refusal.args[1])
+        if refusal.name == "NoChange":
+            return "no_change"
+        if refusal.name in SESSION_REFUSALS:
+            return f"{SESSION_REFUSALS[refusal.name]}:{refusal.args[1]}"
         if refusal.name == "UnknownSupi":
             return "unknown_supi"
         if refusal.name == "SqnSpent":
@@ -119,8 +146,44 @@ class NetworkWalk(Walk):
         self.draw_rand()
         self.step(f"{name}:{supi}", lambda: self.network.command(self.rand, (name,), supi))
 
+    # commands on sessions
+
+    def psi_of(self, supi):
+        """Mostly one that has a session."""
+        record = self.network.subs.get(supi)
+        there = list(record.sessions) if record else []
+        return self.rng.choice(there) if there and self.chance(0.9) else self.rng.randint(1, 15)
+
+    def session_order(self, supi):
+        if self.chance(0.25):
+            psi = self.psi_of(supi)
+            return self.order(f"release:{supi}:{psi}", ("release", psi), supi)
+        record = self.network.subs.get(supi)
+        commanded = [(psi, kept.last_command[1]) for psi, kept in record.sessions.items() if kept.last_command] if record else []
+        if commanded and self.chance(0.15):
+            psi, command = self.rng.choice(commanded)  # the last command once more
+            return self.modify_session(supi, psi, command.get(0x7A) or b"", command.get(0x2A))
+        made = operations(self.rng, 3) if self.chance(0.4) else operation(self.rng, 1, self.rng.randint(2, 30), False)
+        ambr = self.model.codec.AmbrC.read(bytes.fromhex(self.rng.choice(AMBRS))) if self.chance(0.4) else None
+        self.modify_session(supi, self.psi_of(supi), made if self.chance(0.9) else b"", ambr)
+
+    def modify_session(self, supi, psi, made, ambr):
+        codec = self.model.codec
+        try:
+            ops = codec.read_ops(made)
+        except codec.Syntax:
+            return
+        shown = text(codec.AmbrC.write(ambr)) if ambr else "none"
+        self.order(f"modify:{supi}:{psi}:{text(made)}:{shown}", ("modify", psi, ops, ambr), supi)
+
+    def order(self, word, command, supi):
+        self.draw_rand()
+        self.step(word, lambda: self.network.command(self.rand, command, supi))
+
     def any_command(self):
         supi = self.rng.choice(self.phones).handset.cfg.supi
+        if self.chance(0.5):
+            return self.session_order(supi)
         self.command(self.rng.choice(ORDERS), supi)
 
     def tick(self):
@@ -157,10 +220,32 @@ class NetworkWalk(Walk):
 
     def commanded(self, phone):
         """A command to a handset, which may be refused."""
-        first = phone.handset.word == "Deregistered"
+        handset = phone.handset
+        if handset.word == "Registered" and handset.secure and self.chance(0.7):
+            return self.session_commanded(phone)
+        first = handset.word == "Deregistered"
         name = "register" if first else self.rng.choice(SENSIBLE)
         try:
             phone.say(phone.handset.command(COMMANDS[name]))
+        except self.model.ue.Refused:
+            pass
+
+    def session_commanded(self, phone):
+        """A command to one of the handset's few sessions."""
+        rng, psi, place = self.rng, self.rng.choice([1, 1, 2, 15]), None
+        place = phone.handset.psis[psi]
+        if place.word == "Inactive" or self.chance(0.1):
+            command = ("establish", psi, rng.randint(1, 3), rng.choice(DNNS))
+        elif self.chance(0.3):
+            command = ("release", psi)
+        else:
+            made = operation(rng, 1, rng.randint(2, 30), False) if self.chance(0.6) else operations(rng, 3)
+            try:
+                command = ("modify", psi, self.model.codec.read_ops(made))
+            except self.model.codec.Syntax:
+                return
+        try:
+            phone.say(phone.handset.command(command))
         except self.model.ue.Refused:
             pass
 
@@ -212,7 +297,9 @@ class NetworkWalk(Walk):
         if phone.place < len(phone.sent):
             return self.come_up(phone)
         record = self.network.subs.get(phone.handset.cfg.supi)
-        if record and record.word == "Registered" and record.proc is None and self.chance(0.3):
+        if record and record.word == "Registered" and record.sessions and self.chance(0.35):
+            return self.session_order(record.supi)
+        if record and record.word == "Registered" and record.proc is None and self.chance(0.2):
             return self.command(self.rng.choice(ORDERS), record.supi)
         if phone.handset.word in ("Deregistered", "Registered") and self.chance(0.7):
             return self.commanded(phone)
@@ -223,7 +310,7 @@ class NetworkWalk(Walk):
     def go(self):
         """One step, or something between steps."""
         rng, drawn = self.rng, self.rng.random()
-        if len(self.steps) < self.calm:
+        if self.taken() < self.calm:
             return self.go_on(self.phone)
         if self.chance(0.08):
             self.phone = rng.choice(self.phones)
@@ -257,10 +344,12 @@ class Model:
         import nas_codec
         import nas_crypto
         import nas_net
+        import nas_pools
         import nas_script
         import nas_ue
 
-        self.codec, self.crypto, self.net, self.script, self.ue = nas_codec, nas_crypto, nas_net, nas_script, nas_ue
+        self.codec, self.crypto, self.net, self.pools = nas_codec, nas_crypto, nas_net, nas_pools
+        self.script, self.ue = nas_script, nas_ue
 
 
 def draw(rng):
@@ -269,4 +358,4 @@ def draw(rng):
 
 
 if __name__ == "__main__":
-    sys.exit(compare("network", draw, Answered, 600))
+    sys.exit(compare("network", draw, Answered, 450))

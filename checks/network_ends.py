@@ -2,6 +2,8 @@
 from frame_inputs import CAPABILITIES
 from network_inputs import LAST_SQN
 from probe import text
+from smf import drawn_smf, smf_words
+from smf_inputs import DNNS
 
 SLICES = ["01", "0101", "02010203", "ff", "0001", "01aabbcc", "0102030405060708"]
 TIMERS = ("t3522", "t3550", "t3555", "t3560")
@@ -31,7 +33,8 @@ class Subscribed:
             at = model.ue.TIMER_KEYS.index(key)
             self.durations[at] = rng.choice([6000, 6000, 6000, 5000, 10000, 1, 86400000])
         self.subscribers = [self.subscriber(digits + f"{place:0{15 - len(digits)}}") for place in rng.sample(range(1, 10**9), 3)]
-        self.config = standard.net._replace(
+        drawn = drawn_smf(rng, model.codec, model.pools, model.ue.TIMER_KEYS, standard.net._replace(durations=tuple(self.durations)))
+        self.config = drawn._replace(
             plmn=self.plmn,
             region=rng.choice([2, 255]),
             set_pointer=rng.choice([64, 0xFFFF]),
@@ -39,7 +42,6 @@ class Subscribed:
             nea=rng.choice([0, 2]),
             tac=rng.randbytes(3),
             t3512=rng.randrange(256),
-            durations=tuple(self.durations),
             subscribers=tuple(self.subscribers),
         )
 
@@ -48,7 +50,8 @@ class Subscribed:
         slices = tuple(self.model.codec.SliceC.read(bytes.fromhex(made)) for made in rng.choices(SLICES, k=rng.randint(1, 3)))
         sqn = standard.sqn if self.rng.random() < 0.7 else rng.choice([0, LAST_SQN, LAST_SQN - 1, LAST_SQN - 3, rng.randrange(1 << 48)])
         field = rng.choice([b"\xb9\xb9", b"\x80\x00"])
-        return standard._replace(supi=supi, k=rng.randbytes(16), opc=rng.randbytes(16), field=field, sqn=sqn, slices=slices)
+        dnns = tuple(rng.sample(DNNS, rng.randint(1, 3)))
+        return standard._replace(supi=supi, k=rng.randbytes(16), opc=rng.randbytes(16), field=field, sqn=sqn, dnns=dnns, slices=slices)
 
     def stranger(self):
         """One with a SUPI that no subscriber has."""
@@ -75,8 +78,10 @@ class Subscribed:
         amf = bytes([config.region]) + config.set_pointer.to_bytes(2, "big")
         parts = [self.plmn.mcc + self.plmn.mnc, text(amf), config.tmsi, config.nea, text(config.tac), f"{config.t3512:02x}"]
         parts += [self.durations[self.model.ue.TIMER_KEYS.index(key)] for key in TIMERS]
-        return [":".join(map(str, parts)), ",".join(map(self.subscriber_word, self.subscribers))]
+        smf = smf_words(self.model.codec, self.model.ue.TIMER_KEYS, config)
+        return [":".join(map(str, parts))] + smf + [",".join(map(self.subscriber_word, self.subscribers))]
 
     def subscriber_word(self, subscriber):
         slices = self.model.codec.NssaiC.write(subscriber.slices)
-        return f"{subscriber.supi}:{text(subscriber.k)}:{text(subscriber.opc)}:{text(subscriber.field)}:{subscriber.sqn:012x}:{text(slices)}"
+        names = ".".join(map(text, subscriber.dnns))
+        return f"{subscriber.supi}:{text(subscriber.k)}:{text(subscriber.opc)}:{text(subscriber.field)}:{subscriber.sqn:012x}:{names}:{text(slices)}"

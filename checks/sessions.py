@@ -30,7 +30,51 @@ def session_text(codec, session):
     return ":".join(map(str, parts))
 
 
-class SessionWalk(Walk):
+def handset_session_text(codec, psi, place):
+    """A handset's session in the words of both programs."""
+    return f"{psi}:{place.word}" + (":" + session_text(codec, place.session) if place.session else "")
+
+
+def fault_text(codec, fault):
+    """Why operations don't go with rules."""
+    return f"semantic:{fault.rule}" if isinstance(fault, codec.Semantic) else f"too_many:{fault.count}"
+
+
+class SessionCommands:
+    """The commands to a handset's sessions, of a walk that has the model's `handset`, its `codec`, and `command(word, *command)`."""
+
+    def psi(self, *states):
+        """Mostly one in such a state."""
+        fitting = [psi for psi in range(1, 16) if self.handset.psis[psi].word in states]
+        return self.rng.choice(fitting) if fitting and self.chance(0.9) else self.rng.randint(1, 15)
+
+    def establish(self):
+        psi, kind, dnn = self.psi("Inactive"), self.rng.randint(1, 3), bytes.fromhex(self.rng.choice(DNNS))
+        self.command(f"establish:{psi}:{kind}:{text(dnn)}", "establish", psi, kind, dnn)
+
+    def is_there(self):
+        return any(place.word == "Active" for place in self.handset.psis[1:])
+
+    def modify(self):
+        """Mostly one operation that may apply."""
+        if not self.is_there() and self.chance(0.9):
+            return self.establish()
+        psi = self.psi("Active")
+        made = operations(self.rng, 3) if self.chance(0.4) else operation(self.rng, 1, self.rng.randint(2, 30), False)
+        try:
+            ops = self.codec.read_ops(made)
+        except self.codec.Syntax:
+            return
+        self.command(f"modify:{psi}:{text(made)}", "modify", psi, ops)
+
+    def release(self):
+        if not self.is_there() and self.chance(0.9):
+            return self.establish()
+        psi = self.psi("Active")
+        self.command(f"release:{psi}", "release", psi)
+
+
+class SessionWalk(SessionCommands, Walk):
     CALL = "ue"
 
     def __init__(self, rng, modules, config):
@@ -69,8 +113,7 @@ class SessionWalk(Walk):
         seen = []
         for psi, place in enumerate(self.handset.psis[1:], 1):
             if place.word != "Inactive":
-                session = ":" + session_text(self.codec, place.session) if place.session else ""
-                seen.append(f"{psi}:{place.word}{session}")
+                seen.append(handset_session_text(self.codec, psi, place))
         return "|".join(seen) or "none"
 
     def seen(self, refused):
@@ -81,8 +124,7 @@ class SessionWalk(Walk):
     def refusal(self, refused):
         detail = refused.args[1]
         if refused.name == "Qos":
-            semantic = isinstance(detail, self.codec.Semantic)
-            return f"semantic:{detail.rule}" if semantic else f"too_many:{detail.count}"
+            return fault_text(self.codec, detail)
         names = {"NoSuchSession": "no_such_session", "SessionThere": "session_there", "Busy": "wrong_state", "NoPti": "no_pti"}
         return f"{names[refused.name]}:{detail}"
 
@@ -99,36 +141,6 @@ class SessionWalk(Walk):
 
     def command(self, word, *command):
         self.step(word, lambda: self.handset.command(command))
-
-    def psi(self, *states):
-        """Mostly one in such a state."""
-        fitting = [psi for psi in range(1, 16) if self.handset.psis[psi].word in states]
-        return self.rng.choice(fitting) if fitting and self.chance(0.9) else self.rng.randint(1, 15)
-
-    def establish(self):
-        psi, kind, dnn = self.psi("Inactive"), self.rng.randint(1, 3), bytes.fromhex(self.rng.choice(DNNS))
-        self.command(f"establish:{psi}:{kind}:{text(dnn)}", "establish", psi, kind, dnn)
-
-    def is_there(self):
-        return any(place.word == "Active" for place in self.handset.psis[1:])
-
-    def modify(self):
-        """Mostly one operation that may apply."""
-        if not self.is_there() and self.chance(0.9):
-            return self.establish()
-        psi = self.psi("Active")
-        made = operations(self.rng, 3) if self.chance(0.4) else operation(self.rng, 1, self.rng.randint(2, 30), False)
-        try:
-            ops = self.codec.read_ops(made)
-        except self.codec.Syntax:
-            return
-        self.command(f"modify:{psi}:{text(made)}", "modify", psi, ops)
-
-    def release(self):
-        if not self.is_there() and self.chance(0.9):
-            return self.establish()
-        psi = self.psi("Active")
-        self.command(f"release:{psi}", "release", psi)
 
     def deliver(self):
         octets = self.network.frame()

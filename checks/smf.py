@@ -9,7 +9,7 @@ import sys
 
 from probe import text
 from qos import operation
-from sessions import session_text
+from sessions import fault_text, session_text
 from sessions_inputs import AMBRS
 from smf_inputs import DNNS, HandsetSessions
 from walks import LAST_MOMENT, Answered, Walk, compare
@@ -17,6 +17,43 @@ from walks import LAST_MOMENT, Answered, Walk, compare
 TIMERS = ("t3591", "t3592")
 OTHER_TIMERS = ["T3580/1", "T3581/2", "T3582/15", "T3510", "T3550", "T3560"]
 NAMES = {"NoSuchSession": "no_such_session", "SessionBusy": "wrong_state", "Settling": "settling"}
+
+
+def drawn_smf(rng, codec, pools, timer_keys, config):
+    """The configuration with an SMF that is drawn at random: its pools, mostly small ones, its timers, AMBR and kinds of data networks."""
+    durations = list(config.durations)
+    for name in TIMERS:
+        durations[timer_keys.index(name)] = rng.choice([16000, 5000, 1, 86400000])
+    size = rng.choice([1, 2, 2, 3, 3, 250, 65536])
+    first = rng.choice([0x0A2D0002, 0, 2**32 - size])
+    pool6 = None
+    if rng.random() < 0.65:
+        size6 = rng.choice([1, 2, 3, 3, 250, 65536])
+        pool6 = pools.Pool6(rng.choice([1, 0, 2**64 - size6]), size6)
+    kinds = tuple((dnn, rng.choice([1, 2, 2, 3]) if pool6 else 1) for dnn in rng.sample(DNNS, rng.randint(0, 4)))
+    return config._replace(
+        durations=tuple(durations),
+        pool=first.to_bytes(4, "big"),
+        pool_size=size,
+        pool6=pool6,
+        ambr=codec.AmbrC.read(bytes.fromhex(rng.choice(AMBRS))),
+        kinds=kinds,
+    )
+
+
+def smf_words(codec, timer_keys, config):
+    """The SMF of a configuration in the words of both programs."""
+    pools = f"{text(config.pool)}:{config.pool_size}"
+    if config.pool6:
+        pools += f":{config.pool6.first:016x}:{config.pool6.size}"
+    timers = ":".join(str(config.durations[timer_keys.index(name)]) for name in TIMERS)
+    kinds = ",".join(f"{text(dnn)}:{kind}" for dnn, kind in config.kinds) or "none"
+    return [pools, timers, text(codec.AmbrC.write(config.ambr)), kinds]
+
+
+def network_session_text(codec, psi, kept):
+    """A network's session in the words of both programs."""
+    return f"{psi}:{kept.state}:{kept.sent}:{session_text(codec, kept.session)}"
 
 
 class SmfWalk(Walk):
@@ -34,42 +71,19 @@ class SmfWalk(Walk):
     # what the SMF is made with
 
     def drawn(self, config):
-        rng, durations = self.rng, list(config.durations)
-        for name in TIMERS:
-            durations[self.timer_keys.index(name)] = rng.choice([16000, 5000, 1, 86400000])
-        size = rng.choice([1, 2, 2, 3, 3, 250, 65536])
-        first = rng.choice([0x0A2D0002, 0, 2**32 - size])
-        pool6 = None
-        if rng.random() < 0.65:
-            size6 = rng.choice([1, 2, 3, 3, 250, 65536])
-            pool6 = self.pools.Pool6(rng.choice([1, 0, 2**64 - size6]), size6)
-        kinds = tuple((dnn, rng.choice([1, 2, 2, 3]) if pool6 else 1) for dnn in rng.sample(DNNS, rng.randint(0, 4)))
-        return config._replace(
-            durations=tuple(durations),
-            pool=first.to_bytes(4, "big"),
-            pool_size=size,
-            pool6=pool6,
-            ambr=self.codec.AmbrC.read(bytes.fromhex(rng.choice(AMBRS))),
-            kinds=kinds,
-            subscribers=tuple(self.subscriber(config.subscribers[0], supi) for supi in ("001010000000001", "001010000000002")),
-        )
+        config = drawn_smf(self.rng, self.codec, self.pools, self.timer_keys, config)
+        return config._replace(subscribers=tuple(self.subscriber(config.subscribers[0], supi) for supi in ("001010000000001", "001010000000002")))
 
     def subscriber(self, standard, supi):
         slices = [self.codec.SliceC.read(bytes.fromhex(made)) for made in self.rng.sample(["01", "01010203", "02"], self.rng.randint(1, 3))]
         return standard._replace(supi=supi, dnns=tuple(self.rng.sample(DNNS, self.rng.randint(1, 3))), slices=tuple(slices))
 
     def made_with(self):
-        config = self.config
-        pools = f"{text(config.pool)}:{config.pool_size}"
-        if config.pool6:
-            pools += f":{config.pool6.first:016x}:{config.pool6.size}"
-        timers = ":".join(str(config.durations[self.timer_keys.index(name)]) for name in TIMERS)
-        kinds = ",".join(f"{text(dnn)}:{kind}" for dnn, kind in config.kinds) or "none"
         subscribers = []
-        for subscriber in config.subscribers:
+        for subscriber in self.config.subscribers:
             names = ",".join(map(text, subscriber.dnns))
             subscribers.append(f"{subscriber.supi}:{names}:{text(self.codec.NssaiC.write(subscriber.slices))}")
-        return [pools, timers, text(self.codec.AmbrC.write(config.ambr)), kinds] + subscribers
+        return smf_words(self.codec, self.timer_keys, self.config) + subscribers
 
     def observed(self):
         """The model's network, whose messages to handsets are noted in place of being sent."""
@@ -92,7 +106,7 @@ class SmfWalk(Walk):
     def view(self, record):
         seen = [text(self.codec.StatusC.write(frozenset(record.sessions)))]
         for psi, kept in sorted(record.sessions.items()):
-            seen.append(f"{psi}:{kept.state}:{kept.sent}:{session_text(self.codec, kept.session)}")
+            seen.append(network_session_text(self.codec, psi, kept))
         return "|".join(seen)
 
     def seen(self, refused):
@@ -107,8 +121,7 @@ class SmfWalk(Walk):
 
     def refusal(self, refused):
         if refused.name == "Qos":
-            semantic = isinstance(refused.args[1], self.codec.Semantic)
-            return f"semantic:{refused.args[1].rule}" if semantic else f"too_many:{refused.args[1].count}"
+            return fault_text(self.codec, refused.args[1])
         return "no_change" if refused.name == "NoChange" else f"{NAMES[refused.name]}:{refused.args[1]}"
 
     # steps

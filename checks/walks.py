@@ -17,6 +17,7 @@ class Walk:
         self.rng = rng
         self.words, self.steps = [], []
         self.given = []  # since the last step
+        self.looks = 0  # steps that only look at something
         self.deadlines = set()  # also of timers that were stopped since
 
     def chance(self, p):
@@ -49,6 +50,15 @@ class Walk:
         self.steps.append((self.given, seen))
         self.given = []
 
+    def end_look(self, word, view):
+        """The word looks at something, and is to answer what is seen of it."""
+        self.looks += 1
+        self.end_step(word, {"view": view})
+
+    def taken(self):
+        """How many steps were taken, but for those that only looked at something."""
+        return len(self.steps) - self.looks
+
     def moment(self, end):
         """A moment that tells something of the model's end: a deadline, or just before or behind it; one before the last told; the
         last of all."""
@@ -66,7 +76,7 @@ class Walk:
 
     def lasting(self, length):
         """The walk, gone on with until it has so many steps."""
-        while len(self.steps) < length:
+        while self.taken() < length:
             self.go()
         return self
 

@@ -73,7 +73,7 @@ unfoldable pub registration_goes_on : ℕ → Request → Whole → SecurityCont
 registration_goes_on link r q context s w = registration_granted link r q context.challenge s (released q s w)
 
 -- REGISTRATION COMPLETE under the challenge that an acceptance offered a 5G-GUTI under: it is kept alone. The acceptance ends, if it is
--- still open; another procedure goes on.
+-- still open; another procedure goes on. That is never an update: where one is open, it made the last offer.
 abbrev pub acceptance_ended : Procedure → Record → Work → Work
 acceptance_ended (procedures.Accepting a) s w = ended s w
 acceptance_ended procedures.Idle s w = put s w

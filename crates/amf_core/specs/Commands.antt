@@ -61,7 +61,8 @@ left s w = when may_begin s then Ok (deregistration_put (record { sendings = 1 }
 unfoldable pub deregister : List ℕ → Work → Result Work AmfRefusal
 deregister supi w = per (subscriber supi w) (Err UnknownSupi) (λ (s : Record). left s w)
 
--- To give it a new 5G-GUTI: where the last one that was offered is confirmed, the context in use has had no update, and a 5G-TMSI is left.
+-- To give it a new 5G-GUTI (TS 24.501 clause 5.4.4): where the SUPI is known, the subscriber is registered and no procedure is open, the last
+-- 5G-GUTI that was offered is confirmed, the context in use has had no update, and a 5G-TMSI is left; the first of these that fails is told.
 -- A subscriber that is registered has a context in use and was offered a 5G-GUTI.
 abbrev pub last_tmsi : ℕ
 last_tmsi = 4294967295
@@ -73,15 +74,15 @@ abbrev pub granted : SecurityContext → Record → Work → Result Work AmfRefu
 granted context s w =
     when nat_lt (tmsi_of w) (2 ^ 32) then Ok (update_offered context.challenge s w) else Err (TmsiSpent last_tmsi)
 
-abbrev pub updated_under : SecurityContext → Record → Work → Result Work AmfRefusal
-updated_under context s w =
+abbrev pub update_begun_under : SecurityContext → Record → Work → Result Work AmfRefusal
+update_begun_under context s w =
     when s.completed then per s.updated (granted context s w) (λ (tmsi : ℕ). Err (Updated tmsi))
     else Err (Uncompleted (offered_tmsi s))
 
-abbrev pub updated : Record → Work → Result Work AmfRefusal
-updated s w =
-    when may_begin s then per s.in_use (wrong_state s) (λ (context : SecurityContext). updated_under context s w)
+abbrev pub update_begun : Record → Work → Result Work AmfRefusal
+update_begun s w =
+    when may_begin s then per s.in_use (wrong_state s) (λ (context : SecurityContext). update_begun_under context s w)
     else wrong_state s
 
 unfoldable pub update : List ℕ → Work → Result Work AmfRefusal
-update supi w = per (subscriber supi w) (Err UnknownSupi) (λ (s : Record). updated s w)
+update supi w = per (subscriber supi w) (Err UnknownSupi) (λ (s : Record). update_begun s w)

@@ -1,4 +1,4 @@
--- A new 5G-GUTI without a registration (TS 24.501 clause 5.4.4).
+-- A new 5G-GUTI without a registration: the generic UE configuration update procedure (TS 24.501 clause 5.4.4).
 use Rattle.std.specs.Prelude.{ℕ, false, List, [], ◌∷◌, Some}
 use Rattle.nas_base.specs.Branches.{per}
 use Rattle.nas_elements.specs.declared.guti.Guti.{Guti}
@@ -53,7 +53,7 @@ update_offered challenge s w =
     update_put u (update_opened u challenge s) (tmsi_taken w)
 
 -- CONFIGURATION UPDATE COMPLETE under the challenge that an update offered a 5G-GUTI under: it is kept alone. The update ends, if it is
--- still open; another procedure goes on.
+-- still open; another procedure goes on. That is never an acceptance: where one is open, it made the last offer.
 abbrev pub update_ended : Procedure → Record → Work → Work
 update_ended (procedures.Updating u) s w = ended s w
 update_ended procedures.Idle s w = put s w

@@ -22,7 +22,7 @@ use Rattle.amf_core.specs.declared.procedures.Purpose.TheVariants.{Command}
 use Rattle.amf_core.specs.declared.procedures.Updating.{Updating}
 use Rattle.amf_core.specs.declared.subscriber.Record.{Record}
 
--- Each message is sent five times at most, at the fifth expiry its procedure ends (clauses 5.4.1.3.7, 5.4.2.7, 5.4.4.6, 5.5.1.2.8
+-- Each message is due five times at most, at the fifth expiry its procedure ends (TS 24.501 clauses 5.4.1.3.7, 5.4.2.7, 5.4.4.6, 5.5.1.2.8
 -- and 5.5.2.3.5).
 abbrev pub is_left : ℕ → Bool
 is_left sendings = nat_lt sendings 5
@@ -35,7 +35,8 @@ abbrev pub challenging_expired : Challenging → Record → Work → Work
 challenging_expired c s w =
     when is_left c.sendings then challenge_put (challenge_again c) (challenge_open (challenge_again c) s) w else put (idle s) w
 
--- T3550: the same REGISTRATION ACCEPT, on the subscriber's link; where it isn't confirmed, both 5G-GUTIs stay kept
+-- T3550: the same REGISTRATION ACCEPT, on the subscriber's link. At the fifth expiry the acceptance ends and all else stays: the subscriber
+-- is registered, the new 5G-GUTI is kept, beside it the one that the request named if it was, and what was offered can still be confirmed.
 abbrev pub acceptance_again : Accepting → Accepting
 acceptance_again a = record a { sendings = a.sendings + 1 }
 
@@ -48,7 +49,8 @@ accepting_expired a s w =
     then start T3550 s (acceptance_resent (acceptance_again a) s (put (record s { procedure = procedures.Accepting (acceptance_again a) }) w))
     else put (idle s) w
 
--- T3555: the same CONFIGURATION UPDATE COMMAND, on the subscriber's link; where it isn't confirmed, both 5G-GUTIs stay kept
+-- T3555: the same CONFIGURATION UPDATE COMMAND, on the subscriber's link. At the fifth expiry the update ends and all else stays: the
+-- 5G-GUTI that was kept before and the new one are kept, and what was offered can still be confirmed.
 abbrev pub update_again : Updating → Updating
 update_again u = record u { sendings = u.sendings + 1 }
 

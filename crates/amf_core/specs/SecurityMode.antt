@@ -72,7 +72,8 @@ abbrev pub goes_on : Purpose → Option Whole → ℕ → SecurityContext → Re
 goes_on (Registration r) whole link context s w = per whole w (λ (q : Whole). registration_goes_on link r q context s w)
 goes_on Command whole link context s w = w
 
--- SECURITY MODE COMPLETE under the context that was commanded: it is in use from now on, has had no update, and the SMF is told so.
+-- SECURITY MODE COMPLETE under the context that was commanded: it is in use from now on, and has had no update. The SMF alone is told so, by
+-- Switched.
 abbrev pub in_use : SecurityContext → Record → Record
 in_use context s = record s { procedure = procedures.Idle; in_use = Some context; updated = None }
 

@@ -27,7 +27,9 @@ pub record AmfState : Type 0 where
   pub subscribers : List Record
   pub links : List Link
 
--- The word of a subscriber. A challenge for a registration, and an acceptance that isn't confirmed, are common procedures.
+-- The word of a subscriber (TS 24.501 clause 5.1.3.2.3). Registration is a 5GMM specific procedure (clause 5.1.2): while a challenge for it
+-- or the acceptance of it waits for its answer, the word is Common. A challenge that the network commands leaves the word as it is, and so
+-- does an update, which is of a subscriber that is registered.
 abbrev pub by_registered : Bool → AmfWord
 by_registered true = words.Registered
 by_registered false = words.Deregistered

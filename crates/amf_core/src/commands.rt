@@ -1,6 +1,6 @@
 //! The commands that an AMF is given.
 ghost use Rattle.std.specs.Prelude.{◌≡◌};
-ghost use Rattle.amf_core.specs.Commands.{authenticate, authenticated, deregister, granted, left, may_begin, offered_tmsi, update, updated, updated_under};
+ghost use Rattle.amf_core.specs.Commands.{authenticate, authenticated, deregister, granted, left, may_begin, offered_tmsi, update, update_begun, update_begun_under};
 ghost use Rattle.amf_core.specs.Outcome.{Works, unrefused};
 
 use crate::offers::NO_TMSI;
@@ -105,7 +105,7 @@ impl<'a> Work<'a> {
     // The same of a subscriber that is kept.
     #[tactic(auto, unfolding(nas_base::specs::Branches::chosen, nas_base::specs::Branches::per))]
     fn update_one(&mut self, s: Record) -> Result<(), AmfRefusal>
-        ensures { Works self.old self.new result (updated s self.old.work) }
+        ensures { Works self.old self.new result (update_begun s self.old.work) }
     {
         let in_use = s.in_use;
         match in_use {
@@ -117,7 +117,7 @@ impl<'a> Work<'a> {
     // The same under the context in use.
     #[tactic(auto, unfolding(nas_base::specs::Branches::chosen, nas_base::specs::Branches::per))]
     fn update_under(&mut self, context: &Context, s: Record) -> Result<(), AmfRefusal>
-        ensures { Works self.old self.new result (updated_under context.now s self.old.work) }
+        ensures { Works self.old self.new result (update_begun_under context.now s self.old.work) }
     {
         if !s.completed {
             return Err(AmfRefusal::Uncompleted {

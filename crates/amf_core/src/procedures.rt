@@ -54,8 +54,8 @@ pub enum Phase {
     Mode(Context),
 }
 
-/// A challenge: what it is for, the link that it goes on, if there was one, what it waits for, and how often that was sent
-/// (TS 24.501 clauses 5.4.1.3 and 5.4.2). Its timer is T3560.
+/// A challenge: what it is for, the link that it goes on, if there was one, what it waits for, and how many sendings of that were due
+/// (TS 24.501 clauses 5.4.1.3 and 5.4.2): 1 to 5. Without a link nothing is sent, and the sending counts. Its timer is T3560.
 #[derive(Drop)]
 pub struct Challenging {
     pub purpose: Purpose,
@@ -65,7 +65,8 @@ pub struct Challenging {
 }
 
 /// A registration that was accepted and isn't confirmed: the request that it began with, the 5G-GUTI and the sessions that
-/// REGISTRATION ACCEPT tells, and how often it was sent (TS 24.501 clause 5.5.1.2.4). Its timer is T3550.
+/// REGISTRATION ACCEPT tells, and how many sendings of it were due (TS 24.501 clauses 5.5.1.2.4 and 5.5.1.2.8): 1 to 5. Where the
+/// subscriber has no link nothing is sent, and the sending counts. Its timer is T3550.
 #[derive(Drop)]
 pub struct Accepting {
     pub request: Request,
@@ -74,15 +75,17 @@ pub struct Accepting {
     pub sendings: u8,
 }
 
-/// A new 5G-GUTI that the handset was told and hasn't confirmed, and how often CONFIGURATION UPDATE COMMAND was sent (TS 24.501
-/// clause 5.4.4). Its timer is T3555.
+/// A generic UE configuration update procedure (TS 24.501 clause 5.4.4): a new 5G-GUTI that the handset hasn't confirmed, and how many
+/// sendings of CONFIGURATION UPDATE COMMAND were due: 1 to 5. Where the subscriber has no link nothing is sent, and the sending counts.
+/// Its timer is T3555.
 #[derive(Drop)]
 pub struct Updating {
     pub guti: Guti,
     pub sendings: u8,
 }
 
-/// A de-registration by the network, and how often its request was sent (TS 24.501 clause 5.5.2.3). Its timer is T3522.
+/// A de-registration by the network, and how many sendings of its request were due (TS 24.501 clause 5.5.2.3): 1 to 5. Where the
+/// subscriber has no link nothing is sent, and the sending counts. Its timer is T3522.
 #[derive(Drop)]
 pub struct Deregistering {
     pub sendings: u8,

@@ -1,6 +1,8 @@
 -- The moves of answers to challenges, of service requests and of transports, of one subscriber.
-use Rattle.std.proofs.Common.{◌≡◌, refl, sym, ap, subst, ◌∙◌, ◌==◌, ◌||◌, ℕ, Bool, true, false, List, Option, Some, None}
+use Rattle.std.proofs.Common.{◌≡◌, refl, sym, ap, subst, ◌∙◌, ◌==◌, ◌||◌, ℕ, Bool, true, false, List, Option, Some, None, if◌then◌else◌}
+use Rattle.std.specs.Prelude.{is_some}
 use Rattle.milenage.specs.Home.{resync_of}
+use Rattle.nas_base.specs.Values.{is_psi, psi_from}
 use Rattle.nas_base.specs.declared.mm_cause.TheConstants as cause
 use Rattle.nas_security.specs.Contexts.{SecurityContext}
 use Rattle.nas_security.specs.declared.challenges.Challenge.{Challenge}
@@ -12,7 +14,7 @@ use Rattle.amf_core.specs.Authentication.{answered, asking_in, asking_on, authen
 use Rattle.amf_core.specs.Challenges.{challenge_open, ended}
 use Rattle.amf_core.specs.SecurityMode.{commanding_of, commanding_on, goes_on, in_use, mode_completed, mode_rejected, switched, whole_in}
 use Rattle.amf_core.specs.Service.{service_requested}
-use Rattle.amf_core.specs.Transport.{brought_down, session_of, transported}
+use Rattle.amf_core.specs.Transport.{brought_down, n1_sm, session_of, transported}
 use Rattle.amf_core.specs.Registration.{is_on}
 use Rattle.amf_core.specs.Work.{Work, link_of}
 use Rattle.amf_core.specs.declared.acts.Protection.TheVariants.{Ciphered}
@@ -131,22 +133,42 @@ unfolding mode_rejected
 mode_rejected_settles {May} {b} {w} number s e h =
     per_holds (λ (x : Work). Settled May b x) (commanding_on number s.procedure) w _ (λ _. settled h) (λ o _. settled (ended_moves s e h))
 
+-- a context that is taken into use
+used_own : (May : List ℕ → Type 0) (b : Beginning) (context : SecurityContext) (s : Record) → Own May b s → Own May b (in_use context s)
+used_own May b context s e = (e.0, e.1, e.2, λ is. (λ registered. (refl, ((e.3 is).0 registered).1), (e.3 is).1))
+
 switched_moves : {May : List ℕ → Type 0} {b : Beginning} {q : Running} {w : Work} (o : Commanding) (s : Record) → Own May b s
     → Moves May b (running_in s.procedure) q w → Moves May b none_runs none_runs (switched o s w)
-switched_moves o s e h = asked _ s (puts (in_use o.context s) e (stopped_moves s e h))
+switched_moves {May} {b} o s e h = asked _ s refl e (puts (in_use o.context s) (used_own May b o.context s e) (stopped_moves s e h))
 
 purpose_settles : {May : List ℕ → Type 0} {b : Beginning} {w : Work} (purpose : Purpose) (whole : Option Whole) (number : ℕ) (context : SecurityContext) (s : Record)
-    → Own May b s → Moves May b none_runs none_runs w → Settled May b (goes_on purpose whole number context s w)
-purpose_settles {May} {b} {w} (Registration r) whole number context s e h =
-    per_holds (λ (x : Work). Settled May b x) whole w _ (λ _. settled h) (λ q _. goes_on_settles number r q context s e h)
-purpose_settles Command whole number context s e h = settled h
+    → Own May b s → is_some s.in_use ≡ true → Moves May b none_runs none_runs w → Settled May b (goes_on purpose whole number context s w)
+purpose_settles {May} {b} {w} (Registration r) whole number context s e used h =
+    per_holds (λ (x : Work). Settled May b x) whole w _ (λ _. settled h) (λ q _. goes_on_settles number r q context s e used h)
+purpose_settles Command whole number context s e used h = settled h
 
 pub mode_completed_settles : {May : List ℕ → Type 0} {b : Beginning} {w : Work} (m : SecurityModeComplete) (number : ℕ) (s : Record) → Own May b s
     → Moves May b (running_in s.procedure) (running_in s.procedure) w → Settled May b (mode_completed m number s w)
 unfolding mode_completed
 mode_completed_settles {May} {b} {w} m number s e h =
     per_holds (λ (x : Work). Settled May b x) (commanding_of s.procedure) w _ (λ _. settled h)
-    (λ o _. purpose_settles o.challenging.purpose (whole_in m.message s) number o.context (in_use o.context s) e (switched_moves o s e h))
+    (λ o _. purpose_settles o.challenging.purpose (whole_in m.message s) number o.context (in_use o.context s)
+    (used_own May b o.context s e) refl (switched_moves o s e h))
+
+-- a session of a 5GSM message is 1 to 15
+psi_is : (m n : ℕ) → psi_from m ≡ Some n → is_psi n ≡ true
+psi_is m n e =
+    by_test (is_psi m) refl e
+  where
+    by_test : (is : Bool) → is_psi m ≡ is → (if is then Some m else None) ≡ Some n → is_psi n ≡ true
+    by_test true is e = let one : m ≡ n = cc in subst (λ (k : ℕ). is_psi k ≡ true) one is
+    by_test false is e = absurd (cc)
+
+session_is : (container_type : ℕ) (psi : Option ℕ) (n : ℕ) → session_of container_type psi ≡ Some n → is_psi n ≡ true
+session_is container_type psi n =
+    when_holds (λ (x : Option ℕ). x ≡ Some n → is_psi n ≡ true) (container_type == n1_sm) _ None
+    (λ _. per_holds (λ (x : Option ℕ). x ≡ Some n → is_psi n ≡ true) psi None _ (λ _ e. absurd (cc)) (λ m _ e. psi_is m n e))
+    (λ _ e. absurd (cc))
 
 -- service requests, and 5GSM messages
 pub service_settles : {May : List ℕ → Type 0} {b : Beginning} {w : Work} (number : ℕ) (s : Record) → Own May b s
@@ -160,7 +182,9 @@ pub transported_settles : {May : List ℕ → Type 0} {b : Beginning} {w : Work}
     → Moves May b (running_in s.procedure) (running_in s.procedure) w → Settled May b (transported m number challenge s w)
 unfolding transported
 transported_settles {May} {b} {w} m number challenge s e h =
-    per_holds (λ (x : Work). Settled May b x) (session_of m.container_type m.psi) _ _ (λ _. settled (said number (Ciphered s.supi) _ e.2 h)) (λ n _. settled (asked _ s h))
+    per_holds (λ (x : Work). Settled May b x) (session_of m.container_type m.psi) _ _
+    (λ _. settled (said number (Ciphered s.supi) _ e.2 h))
+    (λ n of. settled (asked _ s (session_is m.container_type m.psi n of) e h))
 
 pub brought_down_moves : {May : List ℕ → Type 0} {b : Beginning} {p q : Running} {w : Work} (psi : ℕ) (frame : List ℕ) (s : Record) → Own May b s
     → Moves May b p q w → Moves May b p q (brought_down psi frame s w)

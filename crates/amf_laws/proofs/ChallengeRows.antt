@@ -33,10 +33,10 @@ challenge_runs = with_timer T3560 true none_runs
 stopped_of_moves : {May : List ℕ → Type 0} {b : Beginning} {q : Running} {w : Work} (procedure : Procedure) (s : Record) → Own May b s
     → Moves May b (running_in procedure) q w → Moves May b none_runs q (stopped_of procedure s w)
 stopped_of_moves procedures.Idle s e h = h
-stopped_of_moves (procedures.Challenging c) s e h = stops T3560 s e h
-stopped_of_moves (procedures.Accepting a) s e h = stops T3550 s e h
-stopped_of_moves (procedures.Updating u) s e h = stops T3555 s e h
-stopped_of_moves (procedures.Deregistering d) s e h = stops T3522 s e h
+stopped_of_moves (procedures.Challenging c) s e h = stops T3560 s refl e h
+stopped_of_moves (procedures.Accepting a) s e h = stops T3550 s refl e h
+stopped_of_moves (procedures.Updating u) s e h = stops T3555 s refl e h
+stopped_of_moves (procedures.Deregistering d) s e h = stops T3522 s refl e h
 
 pub stopped_moves : {May : List ℕ → Type 0} {b : Beginning} {q : Running} {w : Work} (s : Record) → Own May b s
     → Moves May b (running_in s.procedure) q w → Moves May b none_runs q (stopped s w)
@@ -69,7 +69,7 @@ challenge_sent_moves c s may h = phase_moves c.phase c s may h
 
 pub challenge_put_moves : {May : List ℕ → Type 0} {b : Beginning} {p q : Running} {w : Work} (c : Challenging) (s : Record) → Own May b s
     → Moves May b p q w → Moves May b (with_timer T3560 true p) (running_in s.procedure) (challenge_put c s w)
-challenge_put_moves c s e h = starts T3560 s e (challenge_sent_moves c s e.2 (puts s e h))
+challenge_put_moves c s e h = starts T3560 s refl e (challenge_sent_moves c s e.2 (puts s e h))
 
 claimed_moves : {May : List ℕ → Type 0} {b : Beginning} {p q : Running} {w : Work} (link : Option ℕ) (supi : List ℕ)
     → Moves May b p q w → Moves May b p q (claimed link supi w)

@@ -71,14 +71,14 @@ by_suci_chain : {May : List ℕ → Type 0} {u : Received} {w : Work} (number : 
     → Chain May u w → Chain May u (request_by_suci number passed r found w)
 by_suci_chain {May} {u} {w} number passed r found is may link h =
     per_holds (λ (x : Work). Chain May u x) found _ _ (λ _. answers number _ link h)
-    (λ s e. does s (is s e) (may s e) (requested_settles number passed r s (refl, λ few. few, may s e) link here) h)
+    (λ s e. does s (is s e) (may s e) (requested_settles number passed r s (refl, λ few. few, may s e, λ is. is) link here) h)
 
 by_guti_chain : {May : List ℕ → Type 0} {u : Received} {w : Work} (number : ℕ) (passed : Option (List ℕ)) (r : Request) (found : Option Record)
     → ((s : Record) → found ≡ Some s → IsCurrent s w) → MayNamed May found → MayLink May number (links_now w)
     → Chain May u w → Chain May u (request_by_guti number passed r found w)
 by_guti_chain {May} {u} {w} number passed r found is may link h =
     per_holds (λ (x : Work). Chain May u x) found _ _ (λ _. answers number _ (waits_link May number (Some r) w link) (waits number _ (Some r) h))
-    (λ s e. does s (is s e) (may s e) (requested_settles number passed r s (refl, λ few. few, may s e) link here) h)
+    (λ s e. does s (is s e) (may s e) (requested_settles number passed r s (refl, λ few. few, may s e, λ is. is) link here) h)
 
 by_identity_chain : {May : List ℕ → Type 0} {u : Received} {w : Work} (identity : Identity) (m : RegistrationRequest) (number : ℕ) (passed : Option (List ℕ))
     → MayNamed May (names identity w) → MayLink May number (links_now w)
@@ -134,7 +134,7 @@ when_pending : {May : List ℕ → Type 0} {u : Received} {w : Work} (m : Securi
 unfolding taken
 when_pending {May} {u} {w} m number c is may link h =
     when_holds (λ (x : Work). Chain May u x) c.is_pending _ w
-    (λ _. does c.subscriber is may (mode_completed_settles m number c.subscriber (refl, λ few. few, may) here) h) (λ _. h)
+    (λ _. does c.subscriber is may (mode_completed_settles m number c.subscriber (refl, λ few. few, may, λ is. is) here) h) (λ _. h)
 
 taken_chain : {May : List ℕ → Type 0} {u : Received} {w : Work} (number : ℕ) (c : Check) (m : Mm) → IsCurrent c.subscriber w → May c.subscriber.supi → MayNamed May (named_by m w) → MayLink May number (links_now w)
     → Chain May u w → Chain May u (taken number c m w)
@@ -142,25 +142,25 @@ unfolding taken
 taken_chain number c (mm.RegistrationRequest m) is may named link h =
     registration_chain m number (Some c.subscriber.supi) named link h
 taken_chain number c mm.RegistrationComplete is may named link h =
-    does c.subscriber is may (completed_settles c.challenge c.subscriber (refl, λ few. few, may) here) h
+    does c.subscriber is may (completed_settles c.challenge c.subscriber (refl, λ few. few, may, λ is. is) here) h
 taken_chain number c mm.ConfigurationUpdateComplete is may named link h =
-    does c.subscriber is may (update_completed_settles c.challenge c.subscriber (refl, λ few. few, may) here) h
+    does c.subscriber is may (update_completed_settles c.challenge c.subscriber (refl, λ few. few, may, λ is. is) here) h
 taken_chain number c (mm.DeregistrationRequestUeOriginating m) is may named link h =
-    does c.subscriber is may (deregistration_requested_settles m number c.subscriber (refl, λ few. few, may) here) h
+    does c.subscriber is may (deregistration_requested_settles m number c.subscriber (refl, λ few. few, may, λ is. is) here) h
 taken_chain number c mm.DeregistrationAcceptUeTerminated is may named link h =
-    does c.subscriber is may (deregistration_accepted_settles number c.subscriber (refl, λ few. few, may) here) h
+    does c.subscriber is may (deregistration_accepted_settles number c.subscriber (refl, λ few. few, may, λ is. is) here) h
 taken_chain number c (mm.ServiceRequest m) is may named link h =
-    does c.subscriber is may (service_settles number c.subscriber (refl, λ few. few, may) here) h
+    does c.subscriber is may (service_settles number c.subscriber (refl, λ few. few, may, λ is. is) here) h
 taken_chain number c (mm.AuthenticationResponse m) is may named link h =
-    does c.subscriber is may (responded_settles m number c.subscriber (refl, λ few. few, may) here) h
+    does c.subscriber is may (responded_settles m number c.subscriber (refl, λ few. few, may, λ is. is) here) h
 taken_chain number c (mm.AuthenticationFailure m) is may named link h =
-    does c.subscriber is may (failed_settles m number c.subscriber (refl, λ few. few, may) link here) h
+    does c.subscriber is may (failed_settles m number c.subscriber (refl, λ few. few, may, λ is. is) link here) h
 taken_chain number c (mm.IdentityResponse m) is may named link h = identity_chain m number named link h
 taken_chain number c (mm.SecurityModeComplete m) is may named link h = when_pending m number c is may link h
 taken_chain number c (mm.SecurityModeReject m) is may named link h =
-    does c.subscriber is may (mode_rejected_settles number c.subscriber (refl, λ few. few, may) here) h
+    does c.subscriber is may (mode_rejected_settles number c.subscriber (refl, λ few. few, may, λ is. is) here) h
 taken_chain number c (mm.UlNasTransport m) is may named link h =
-    does c.subscriber is may (transported_settles m number c.challenge c.subscriber (refl, λ few. few, may) here) h
+    does c.subscriber is may (transported_settles m number c.challenge c.subscriber (refl, λ few. few, may, λ is. is) here) h
 taken_chain number c (mm.RegistrationAccept m) is may named link h = h
 taken_chain number c (mm.RegistrationReject m) is may named link h = h
 taken_chain number c mm.DeregistrationAcceptUeOriginating is may named link h = h
@@ -276,13 +276,13 @@ taken_plain_chain number (mm.RegistrationRequest m) may named link h =
 taken_plain_chain number (mm.ServiceRequest m) may named link h = answers number _ link h
 taken_plain_chain number (mm.IdentityResponse m) may named link h = identity_chain m number named link h
 taken_plain_chain number (mm.AuthenticationResponse m) may named link h =
-    of_link_chain number (responded m number) may (λ s it. responded_settles m number s (refl, λ few. few, it) here) link h
+    of_link_chain number (responded m number) may (λ s it. responded_settles m number s (refl, λ few. few, it, λ is. is) here) link h
 taken_plain_chain number (mm.AuthenticationFailure m) may named link h =
-    of_link_chain number (authentication_failed m number) may (λ s it. failed_settles m number s (refl, λ few. few, it) link here) link h
+    of_link_chain number (authentication_failed m number) may (λ s it. failed_settles m number s (refl, λ few. few, it, λ is. is) link here) link h
 taken_plain_chain number (mm.SecurityModeReject m) may named link h =
-    of_link_chain number (mode_rejected number) may (λ s it. mode_rejected_settles number s (refl, λ few. few, it) here) link h
+    of_link_chain number (mode_rejected number) may (λ s it. mode_rejected_settles number s (refl, λ few. few, it, λ is. is) here) link h
 taken_plain_chain number mm.DeregistrationAcceptUeTerminated may named link h =
-    of_link_chain number (deregistration_accepted number) may (λ s it. deregistration_accepted_settles number s (refl, λ few. few, it) here) link h
+    of_link_chain number (deregistration_accepted number) may (λ s it. deregistration_accepted_settles number s (refl, λ few. few, it, λ is. is) here) link h
 taken_plain_chain number mm.RegistrationComplete may named link h = h
 taken_plain_chain number (mm.DeregistrationRequestUeOriginating m) may named link h = h
 taken_plain_chain number (mm.SecurityModeComplete m) may named link h = h

@@ -9,7 +9,7 @@ use Rattle.milenage.specs.declared.home.HomeRefusal.TheVariants as homes_say
 use Rattle.milenage.specs.declared.vector.Vector.{Vector}
 use Rattle.nas_security.specs.Contexts.{SecurityContext}
 use Rattle.amf_core.specs.Challenges.{challenge_open, idle}
-use Rattle.amf_core.specs.Commands.{authenticated, by_sqn, granted, is_idle, is_registered, left, may_begin, updated, updated_under}
+use Rattle.amf_core.specs.Commands.{authenticated, by_sqn, granted, is_idle, is_registered, left, may_begin, update_begun, update_begun_under}
 use Rattle.amf_core.specs.ConfigurationUpdate.{updating_open}
 use Rattle.amf_core.specs.Deregistration.{unregistered}
 use Rattle.amf_core.specs.Events.{accepting_expired, acceptance_again, challenge_again, challenging_expired, deregistering_expired, expired_of, fenced_of, is_challenged_on, is_left, link_lost_of, of_acceptance, of_challenge, of_deregistration, of_update, sessions_told_of, unlinked, update_again, updating_expired}
@@ -30,7 +30,7 @@ use Rattle.nas_base.proofs.Branching.{per_holds, when_holds}
 use Rattle.amf_laws.proofs.ChallengeRows.{challenge_next_settles, challenge_put_moves, challenge_settles, ended_moves, say_on_moves}
 use Rattle.amf_laws.proofs.Moves.{Beginning, Own, Moves, Settled, settled, told_as}
 use Rattle.amf_laws.proofs.Moves.Moves.{asked, starts, puts}
-use Rattle.amf_laws.proofs.RegistrationRows.{deregistration_put_moves}
+use Rattle.amf_laws.proofs.RegistrationRows.{deregistration_put_moves, unregistered_own}
 use Rattle.amf_laws.proofs.UpdateRows.{update_offered_moves, update_put_moves}
 use Rattle.amf_laws.specs.Timers.{Running, none_runs, running_in, with_timer}
 
@@ -45,7 +45,7 @@ accepting_settles : {May : List ℕ → Type 0} {b : Beginning} {q : Running} {w
     → Moves May b none_runs q w → Settled May b (accepting_expired a s w)
 accepting_settles {May} {b} {q} {w} a s e h =
     when_holds (λ (x : Work). Settled May b x) (is_left a.sendings) _ _
-    (λ _. settled (starts T3550 s e (say_on_moves s.link (Ciphered s.supi) _ e.2 (puts (record s { procedure = procedures.Accepting (acceptance_again a) }) e h))))
+    (λ _. settled (starts T3550 s refl e (say_on_moves s.link (Ciphered s.supi) _ e.2 (puts (record s { procedure = procedures.Accepting (acceptance_again a) }) e h))))
     (λ _. settled (puts (idle s) e h))
 
 updating_settles : {May : List ℕ → Type 0} {b : Beginning} {q : Running} {w : Work} (u : Updating) (s : Record) → Own May b s
@@ -58,7 +58,8 @@ deregistering_settles : {May : List ℕ → Type 0} {b : Beginning} {q : Running
     → Moves May b none_runs q w → Settled May b (deregistering_expired d s w)
 deregistering_settles {May} {b} {q} {w} d s e h =
     when_holds (λ (x : Work). Settled May b x) (is_left d.sendings) _ _
-    (λ _. settled (deregistration_put_moves _ s e h)) (λ _. settled (asked _ s (puts (unregistered s) e h)))
+    (λ _. settled (deregistration_put_moves _ s e h))
+    (λ _. settled (asked _ s refl e (puts (unregistered s) (unregistered_own May b s e) h)))
 
 of_challenge_settles : {May : List ℕ → Type 0} {b : Beginning} {w : Work} (procedure : Procedure) (s : Record) → Own May b s
     → Moves May b (with_timer T3560 false (running_in procedure)) (running_in procedure) w → Settled May b (of_challenge procedure s w)
@@ -165,17 +166,17 @@ granted_settles {May} {b} {q} {w} context s e h =
     when_holds (λ (x : Result Work AmfRefusal). SettledBy May b x) (nat_lt (tmsi_of w) (2 ^ 32)) _ _
     (λ _. settled (update_offered_moves context.challenge s e h)) (λ _. tt)
 
-updated_under_settles : {May : List ℕ → Type 0} {b : Beginning} {q : Running} {w : Work} (context : SecurityContext) (s : Record) → Own May b s
-    → Moves May b none_runs q w → SettledBy May b (updated_under context s w)
-updated_under_settles {May} {b} {q} {w} context s e h =
+update_begun_under_settles : {May : List ℕ → Type 0} {b : Beginning} {q : Running} {w : Work} (context : SecurityContext) (s : Record) → Own May b s
+    → Moves May b none_runs q w → SettledBy May b (update_begun_under context s w)
+update_begun_under_settles {May} {b} {q} {w} context s e h =
     when_holds (λ (x : Result Work AmfRefusal). SettledBy May b x) s.completed _ _
     (λ _. per_holds (λ (x : Result Work AmfRefusal). SettledBy May b x) s.updated _ _ (λ _. granted_settles context s e h) (λ tmsi _. tt))
     (λ _. tt)
 
-pub updated_settles : {May : List ℕ → Type 0} {b : Beginning} {q : Running} {w : Work} (s : Record) → Own May b s
-    → Moves May b (running_in s.procedure) q w → SettledBy May b (updated s w)
-updated_settles {May} {b} {q} {w} s e h =
+pub update_begun_settles : {May : List ℕ → Type 0} {b : Beginning} {q : Running} {w : Work} (s : Record) → Own May b s
+    → Moves May b (running_in s.procedure) q w → SettledBy May b (update_begun s w)
+update_begun_settles {May} {b} {q} {w} s e h =
     when_holds (λ (x : Result Work AmfRefusal). SettledBy May b x) (may_begin s) _ _
     (λ may. per_holds (λ (x : Result Work AmfRefusal). SettledBy May b x) s.in_use _ _ (λ _. tt)
-    (λ context _. updated_under_settles context s e (told_as _ none_runs (may_begin_runs s may) h)))
+    (λ context _. update_begun_under_settles context s e (told_as _ none_runs (may_begin_runs s may) h)))
     (λ _. tt)

@@ -20,6 +20,7 @@ use Rattle.amf_laws.proofs.Moves.Moves.{here, said, asked, starts, stops, puts, 
 use Rattle.amf_laws.proofs.Records.{are_equal, equals_itself, is_kept, other_is_found, own_is_found, put_among, some_stays, stay_distinct, were_distinct}
 use Rattle.amf_laws.proofs.FramedFit.{commanded_runs}
 use Rattle.amf_laws.proofs.Told.{acts_onto, all_acted}
+use Rattle.amf_laws.specs.Consistency.{IsConsistent}
 use Rattle.amf_laws.specs.Timers.{AreDistinct, Running, running_for, running_in, with_timer}
 
 -- the same SUPIs are kept, and none twice where none was
@@ -28,9 +29,9 @@ pub moves_some : (x : List ℕ) {May : List ℕ → Type 0} {b : Beginning} {p q
 unfolding put put_link
 moves_some x here = refl
 moves_some x (said number protection message may h) = moves_some x h
-moves_some x (asked call s h) = moves_some x h
-moves_some x (starts id s e h) = moves_some x h
-moves_some x (stops id s e h) = moves_some x h
+moves_some x (asked call s is e h) = moves_some x h
+moves_some x (starts id s is e h) = moves_some x h
+moves_some x (stops id s is e h) = moves_some x h
 moves_some x (puts s e h) = some_stays s x _ ∙ moves_some x h
 moves_some x (links number supi waiting h) = moves_some x h
 moves_some x (homes home h) = moves_some x h
@@ -41,23 +42,23 @@ pub moves_distinct : {May : List ℕ → Type 0} {b : Beginning} {p q : Running}
 unfolding put put_link
 moves_distinct begin here = begin
 moves_distinct begin (said number protection message may h) = moves_distinct begin h
-moves_distinct begin (asked call s h) = moves_distinct begin h
-moves_distinct begin (starts id s e h) = moves_distinct begin h
-moves_distinct begin (stops id s e h) = moves_distinct begin h
+moves_distinct begin (asked call s is e h) = moves_distinct begin h
+moves_distinct begin (starts id s is e h) = moves_distinct begin h
+moves_distinct begin (stops id s is e h) = moves_distinct begin h
 moves_distinct begin (puts s e h) = stay_distinct s _ (moves_distinct begin h)
 moves_distinct begin (links number supi waiting h) = moves_distinct begin h
 moves_distinct begin (homes home h) = moves_distinct begin h
 moves_distinct begin (numbers h) = moves_distinct begin h
 
 -- the record of any other SUPI stays
-pub other_stays : (x : List ℕ) {May : List ℕ → Type 0} {b : Beginning} {p q : Running} {w : Work} → bytes_eq b.supi x ≡ false → Moves May b p q w
+pub other_stays : (x : List ℕ) {May : List ℕ → Type 0} {b : Beginning} {p q : Running} {w : Work} → bytes_eq b.subscriber.supi x ≡ false → Moves May b p q w
     → subscriber_in x (kept_now w) ≡ subscriber_in x (kept_now b.first)
 unfolding put put_link
 other_stays x other here = refl
 other_stays x other (said number protection message may h) = other_stays x other h
-other_stays x other (asked call s h) = other_stays x other h
-other_stays x other (starts id s e h) = other_stays x other h
-other_stays x other (stops id s e h) = other_stays x other h
+other_stays x other (asked call s is e h) = other_stays x other h
+other_stays x other (starts id s is e h) = other_stays x other h
+other_stays x other (stops id s is e h) = other_stays x other h
 other_stays x other (puts s e h) =
     other_is_found s x _ (ap (λ (y : List ℕ). bytes_eq y x) e.0 ∙ other) ∙ other_stays x other h
 other_stays x other (links number supi waiting h) = other_stays x other h
@@ -65,15 +66,15 @@ other_stays x other (homes home h) = other_stays x other h
 other_stays x other (numbers h) = other_stays x other h
 
 -- and so do its timers
-pub other_told : (x : List ℕ) (r : Running) {May : List ℕ → Type 0} {b : Beginning} {p q : Running} {w : Work} → bytes_eq b.supi x ≡ false → Moves May b p q w
+pub other_told : (x : List ℕ) (r : Running) {May : List ℕ → Type 0} {b : Beginning} {p q : Running} {w : Work} → bytes_eq b.subscriber.supi x ≡ false → Moves May b p q w
     → all_acted x w.acts r ≡ all_acted x b.first.acts r
 unfolding put put_link
 other_told x r other here = refl
 other_told x r other (said number protection message may h) = rw acts_onto (other_told x r other h)
-other_told x r other (asked call s h) = rw acts_onto (other_told x r other h)
-other_told x r other (starts id s e h) =
+other_told x r other (asked call s is e h) = rw acts_onto (other_told x r other h)
+other_told x r other (starts id s is e h) =
     let not_it : bytes_eq s.supi x ≡ false = ap (λ (y : List ℕ). bytes_eq y x) e.0 ∙ other in rw (acts_onto, not_it) (other_told x r other h)
-other_told x r other (stops id s e h) =
+other_told x r other (stops id s is e h) =
     let not_it : bytes_eq s.supi x ≡ false = ap (λ (y : List ℕ). bytes_eq y x) e.0 ∙ other in rw (acts_onto, not_it) (other_told x r other h)
 other_told x r other (puts s e h) = other_told x r other h
 other_told x r other (links number supi waiting h) = other_told x r other h
@@ -81,16 +82,16 @@ other_told x r other (homes home h) = other_told x r other h
 other_told x r other (numbers h) = other_told x r other h
 
 -- the timers of the SUPI itself, by what was told
-pub own_told : (x : List ℕ) (r : Running) {May : List ℕ → Type 0} {b : Beginning} {p q : Running} {w : Work} → bytes_eq b.supi x ≡ true
+pub own_told : (x : List ℕ) (r : Running) {May : List ℕ → Type 0} {b : Beginning} {p q : Running} {w : Work} → bytes_eq b.subscriber.supi x ≡ true
     → all_acted x b.first.acts r ≡ b.told → Moves May b p q w → all_acted x w.acts r ≡ p
 unfolding put put_link
 own_told x r own begin here = begin
 own_told x r own begin (said number protection message may h) = rw acts_onto (own_told x r own begin h)
-own_told x r own begin (asked call s h) = rw acts_onto (own_told x r own begin h)
-own_told x r own begin (starts id s e h) =
+own_told x r own begin (asked call s is e h) = rw acts_onto (own_told x r own begin h)
+own_told x r own begin (starts id s is e h) =
     let it : bytes_eq s.supi x ≡ true = ap (λ (y : List ℕ). bytes_eq y x) e.0 ∙ own in
     rw (acts_onto, it) (ap (λ (y : Running). with_timer id true y) (own_told x r own begin h))
-own_told x r own begin (stops id s e h) =
+own_told x r own begin (stops id s is e h) =
     let it : bytes_eq s.supi x ≡ true = ap (λ (y : List ℕ). bytes_eq y x) e.0 ∙ own in
     rw (acts_onto, it) (ap (λ (y : Running). with_timer id false y) (own_told x r own begin h))
 own_told x r own begin (puts s e h) = own_told x r own begin h
@@ -99,15 +100,15 @@ own_told x r own begin (homes home h) = own_told x r own begin h
 own_told x r own begin (numbers h) = own_told x r own begin h
 
 -- and by its procedure
-pub own_opened : (x : List ℕ) {May : List ℕ → Type 0} {b : Beginning} {p q : Running} {w : Work} → bytes_eq b.supi x ≡ true
+pub own_opened : (x : List ℕ) {May : List ℕ → Type 0} {b : Beginning} {p q : Running} {w : Work} → bytes_eq b.subscriber.supi x ≡ true
     → is_some (subscriber_in x (kept_now b.first)) ≡ true
     → running_for (subscriber_in x (kept_now b.first)) ≡ b.opened → Moves May b p q w → running_for (subscriber_in x (kept_now w)) ≡ q
 unfolding put put_link
 own_opened x own kept begin here = begin
 own_opened x own kept begin (said number protection message may h) = own_opened x own kept begin h
-own_opened x own kept begin (asked call s h) = own_opened x own kept begin h
-own_opened x own kept begin (starts id s e h) = own_opened x own kept begin h
-own_opened x own kept begin (stops id s e h) = own_opened x own kept begin h
+own_opened x own kept begin (asked call s is e h) = own_opened x own kept begin h
+own_opened x own kept begin (starts id s is e h) = own_opened x own kept begin h
+own_opened x own kept begin (stops id s is e h) = own_opened x own kept begin h
 own_opened x own kept begin (puts s e h) =
     ap running_for
     (own_is_found s x _ (ap (λ (y : List ℕ). bytes_eq y x) e.0 ∙ own) (moves_some x h ∙ kept))
@@ -121,12 +122,12 @@ pub record Fits (x : List ℕ) (r : Running) (w : Work) : Type 0 where
 
 -- a row that begins so that what was told of its subscriber's timers, and its procedure, are as they are
 pub record IsBegun (x : List ℕ) (r : Running) (b : Beginning) : Type 0 where
-  pub own_told : bytes_eq b.supi x ≡ true → all_acted x b.first.acts r ≡ b.told
-  pub own_opened : bytes_eq b.supi x ≡ true → running_for (subscriber_in x (kept_now b.first)) ≡ b.opened
-  pub kept : bytes_eq b.supi x ≡ true → is_some (subscriber_in x (kept_now b.first)) ≡ true
-  pub other : bytes_eq b.supi x ≡ false → all_acted x b.first.acts r ≡ running_for (subscriber_in x (kept_now b.first))
+  pub own_told : bytes_eq b.subscriber.supi x ≡ true → all_acted x b.first.acts r ≡ b.told
+  pub own_opened : bytes_eq b.subscriber.supi x ≡ true → running_for (subscriber_in x (kept_now b.first)) ≡ b.opened
+  pub kept : bytes_eq b.subscriber.supi x ≡ true → is_some (subscriber_in x (kept_now b.first)) ≡ true
+  pub other : bytes_eq b.subscriber.supi x ≡ false → all_acted x b.first.acts r ≡ running_for (subscriber_in x (kept_now b.first))
 
-own_or_other : (x : List ℕ) (r : Running) {May : List ℕ → Type 0} {b : Beginning} {w : Work} (own : Bool) → bytes_eq b.supi x ≡ own → IsBegun x r b → Settled May b w
+own_or_other : (x : List ℕ) (r : Running) {May : List ℕ → Type 0} {b : Beginning} {w : Work} (own : Bool) → bytes_eq b.subscriber.supi x ≡ own → IsBegun x r b → Settled May b w
     → all_acted x w.acts r ≡ running_for (subscriber_in x (kept_now w))
 own_or_other x r true own h done =
     own_told x r own (h.own_told own) done.moves ∙ sym (own_opened x own (h.kept own) (h.own_opened own) done.moves)
@@ -134,7 +135,7 @@ own_or_other x r false other h done =
     other_told x r other done.moves ∙ h.other other ∙ sym (ap running_for (other_stays x other done.moves))
 
 pub settled_fits : (x : List ℕ) (r : Running) {May : List ℕ → Type 0} {b : Beginning} {w : Work} → IsBegun x r b → Settled May b w → Fits x r w
-settled_fits x r {May} {b} {w} h done = record { fit = own_or_other x r (bytes_eq b.supi x) refl h done }
+settled_fits x r {May} {b} {w} h done = record { fit = own_or_other x r (bytes_eq b.subscriber.supi x) refl h done }
 
 -- who is commanded has a challenge open
 commanding_on_runs : (number : ℕ) (procedure : Procedure) (o : Commanding) → commanding_on number procedure ≡ Some o
@@ -149,6 +150,7 @@ pub record IsOf (s : Record) (p : Passage) : Type 0 where
   pub supi : p.check.subscriber.supi ≡ s.supi
   pub runs : running_in p.check.subscriber.procedure ≡ running_in s.procedure
   pub kept : p.check.subscriber.kept ≡ s.kept
+  pub consistent : IsConsistent s → IsConsistent p.check.subscriber
 
 in_use_is_of : (number : ℕ) (octets : List ℕ) (s : Record) (p : Passage) → checked_in_use number octets s ≡ Some p → IsOf s p
 unfolding checked_in_use
@@ -159,7 +161,8 @@ in_use_is_of number octets s p =
     (λ _ e. absurd (cc))
     (λ o _ e.
     let one : record { check = passed_in_use number context o.count s; message = o.message } ≡ p = cc in
-    subst (λ (y : Passage). IsOf s y) one (record { supi = refl; runs = refl; kept = refl })))
+    subst (λ (y : Passage). IsOf s y) one
+    (record { supi = refl; runs = refl; kept = refl; consistent = λ is. (λ registered. (refl, (is.0 registered).1), is.1) })))
 
 pending_is_of : (number : ℕ) (octets : List ℕ) (s : Record) (p : Passage) → checked_pending number octets s ≡ Some p → IsOf s p
 unfolding checked_pending
@@ -171,7 +174,7 @@ pending_is_of number octets s p =
     (λ o _ e.
     let one : record { check = passed_pending number m o.count s; message = o.message } ≡ p = cc in
     subst (λ (y : Passage). IsOf s y) one
-    (record { supi = refl; runs = sym (commanding_on_runs number s.procedure m is); kept = refl })))
+    (record { supi = refl; runs = sym (commanding_on_runs number s.procedure m is); kept = refl; consistent = λ whole. whole })))
 
 pub checked_is_of : (number : ℕ) (octets : List ℕ) (s : Record) (p : Passage) → IsChecked number octets s p → IsOf s p
 checked_is_of number octets s p (inl e) = in_use_is_of number octets s p e
@@ -222,6 +225,15 @@ fit_begins x r s w is h = record {
 }
 
 -- a chain of rows
+pub chain_some : (x : List ℕ) {May : List ℕ → Type 0} {u : Received} {w : Work} → Chain May u w
+    → is_some (subscriber_in x (kept_now w)) ≡ is_some (subscriber_in x (kept_now u.first))
+unfolding put put_link
+chain_some x nothing = refl
+chain_some x (speaks number protection message may h) = chain_some x h
+chain_some x (waits number supi waiting h) = chain_some x h
+chain_some x (passes s p is may checked) = some_stays p.check.subscriber x _
+chain_some x (does s is may done h) = moves_some x done.moves ∙ chain_some x h
+
 pub chain_distinct : {May : List ℕ → Type 0} {u : Received} {w : Work} → AreDistinct (kept_now u.first) → Chain May u w → AreDistinct (kept_now w)
 unfolding put put_link
 chain_distinct begin nothing = begin

@@ -21,6 +21,7 @@ use Rattle.nas_base.proofs.Branching.{per_holds, when_holds}
 use Rattle.amf_laws.proofs.ChallengeRows.{challenge_runs}
 use Rattle.amf_laws.proofs.Records.{are_equal, found_has, is_kept, other_is_found, own_is_found, stay_distinct}
 use Rattle.amf_laws.proofs.Told.{acted_of, all_acted, outs_onto}
+use Rattle.amf_laws.specs.Consistency.{IsConsistent}
 use Rattle.amf_laws.specs.Timers.{AreDistinct, Running, all_taken, running_for, running_in, taken_of}
 
 abbrev pub framed_now : Framed → List Record
@@ -31,6 +32,7 @@ pub record IsCounted (old new : Record) : Type 0 where
   pub supi : new.supi ≡ old.supi
   pub runs : running_in new.procedure ≡ running_in old.procedure
   pub kept : new.kept ≡ old.kept
+  pub consistent : IsConsistent old → IsConsistent new
 
 -- whose context protects a message
 abbrev pub IsFor : Protection → List ℕ → Type 0
@@ -56,7 +58,9 @@ ciphered_sends {f} supi number message s is found =
     per_holds (λ (g : Framed). Sends (Ciphered supi) f g) s.in_use _ _ (λ _. plain_sends (Ciphered supi) number message)
     (λ context _. when_holds (λ (g : Framed). Sends (Ciphered supi) f g) (is_unsent message context Down) f _ (λ _. unsent)
     (λ _. goes number _ _
-    (counts s (record s { in_use = Some (counted context Down) }) (record { supi = refl; runs = refl; kept = refl }) is found unsent)))
+    (counts s (record s { in_use = Some (counted context Down) })
+    (record { supi = refl; runs = refl; kept = refl; consistent = λ whole. (λ registered. (refl, (whole.0 registered).1), whole.1) })
+    is found unsent)))
 
 -- under the context that is commanded
 pub commanded_runs : (procedure : Procedure) (o : Commanding) → commanding_of procedure ≡ Some o → running_in procedure ≡ challenge_runs
@@ -74,7 +78,7 @@ commanded_sends {f} supi number message s is found =
     (λ o has. when_holds (λ (g : Framed). Sends (IntegrityProtectedWithNewContext supi) f g) (is_unsent message o.context Down) f _ (λ _. unsent)
     (λ _. goes number _ _
     (counts s (record s { procedure = procedures.Challenging (counted_command o) })
-    (record { supi = refl; runs = sym (commanded_runs s.procedure o has); kept = refl }) is found unsent)))
+    (record { supi = refl; runs = sym (commanded_runs s.procedure o has); kept = refl; consistent = λ whole. whole }) is found unsent)))
 
 current_found : (supi : List ℕ) (subscribers : List Record) (s : Record) → subscriber_in supi subscribers ≡ Some s
     → subscriber_in s.supi subscribers ≡ Some s

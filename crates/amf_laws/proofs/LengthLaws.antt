@@ -1,25 +1,19 @@
 -- No message that goes out of a step is too long.
-use Rattle.std.proofs.Common.{◌≡◌, refl, sym, ap, subst, ◌∙◌, ℕ, ◌+◌, ◌≤◌, Bool, true, false, ◌||◌, List, [], ◌∷◌, ◌++◌, length, nat_lt, None, Result, Ok, Err, arith}
-use Rattle.std.proofs.lemmas.Bool.Decides.{nat_tests}
+use Rattle.std.proofs.Common.{sym, subst, ℕ, false, List, [], ◌∷◌, ◌++◌, None, Result, Ok, Err}
 use Rattle.milenage.specs.Home.{HomeRecord}
 use Rattle.nas_base.proofs.Branching.{per_holds, when_holds}
-use Rattle.nas_base.specs.declared.count.Dir.{Dir}
 use Rattle.nas_base.specs.declared.count.Dir.TheVariants.{Down}
 use Rattle.nas_timers.specs.Durations.{deadline_after, duration_of}
-use Rattle.nas_security.proofs.FrameLemmas.{length-frame}
-use Rattle.nas_security.specs.Contexts.{SecurityContext}
-use Rattle.nas_security.specs.Frame.{frame}
 use Rattle.mm_messages.specs.Messages.{spelling}
 use Rattle.mm_entity.proofs.FramingLaws.{message_fits, next_frame_fits}
 use Rattle.mm_entity.specs.Framing.{is_too_long, is_unsent}
-use Rattle.amf_core.specs.Framing.{Framed, ciphered_for, commanded_for, with_record, counted_command, framed, framed_all, framed_ciphered, framed_plain, framed_with_new_context, under_in_use, under_new}
+use Rattle.amf_core.specs.Framing.{Framed, ciphered_for, commanded_for, framed, framed_all, framed_ciphered, framed_plain, framed_with_new_context}
 use Rattle.amf_core.specs.SecurityMode.{commanding_of}
 use Rattle.amf_core.specs.State.{AmfState, subscriber_in}
 use Rattle.amf_core.specs.Step.{ended, finished, started, step_of, worked}
 use Rattle.amf_core.specs.Work.{Work, config_of, put, put_link}
 use Rattle.amf_core.specs.declared.acts.Act.{Act}
 use Rattle.amf_core.specs.declared.acts.Act.TheVariants.{Say, Tell}
-use Rattle.amf_core.specs.declared.acts.Protection.{Protection}
 use Rattle.amf_core.specs.declared.acts.Protection.TheVariants.{Plain, Ciphered, IntegrityProtectedWithNewContext}
 use Rattle.amf_core.specs.declared.inputs.AmfInput.{AmfInput}
 use Rattle.amf_core.specs.declared.inputs.AmfRefusal.{AmfRefusal}
@@ -28,7 +22,7 @@ use Rattle.amf_core.specs.declared.outs.AmfOut.TheVariants.{Send, Passed, Smf, S
 use Rattle.amf_core.specs.declared.subscriber.Record.{Record}
 use Rattle.amf_laws.proofs.Chains.{Chain, Received}
 use Rattle.amf_laws.proofs.Chains.Chain.{nothing, speaks, waits, passes, does}
-use Rattle.amf_laws.proofs.KeptLaws.{any_have}
+use Rattle.amf_laws.proofs.RecordLaws.{any_have}
 use Rattle.amf_laws.proofs.Moves.{Beginning, Moves}
 use Rattle.amf_laws.proofs.Moves.Moves.{here, said, asked, starts, stops, puts, links, homes, numbers}
 use Rattle.amf_laws.proofs.PassedLaws.{IsAtStart, pass_told}
@@ -54,11 +48,11 @@ moves_fit : {May : List ℕ → Type 0} {b : Beginning} {p q : Running} {w : Wor
 unfolding put put_link
 moves_fit begin here = begin
 moves_fit begin (said {p} {q} {w} number protection message may h) = act_more w.acts (Say number protection message) (moves_fit begin h) tt
-moves_fit begin (asked {p} {q} {w} call s h) =
+moves_fit begin (asked {p} {q} {w} call s is e h) =
     act_more w.acts (Tell (Smf (record { supi = s.supi; call = call }))) (moves_fit begin h) tt
-moves_fit begin (starts {p} {q} {w} id s e h) =
+moves_fit begin (starts {p} {q} {w} id s is e h) =
     act_more w.acts (Tell (Start s.supi id (deadline_after w.moment (duration_of id (config_of w).durations)))) (moves_fit begin h) tt
-moves_fit begin (stops {p} {q} {w} id s e h) = act_more w.acts (Tell (Stop s.supi id)) (moves_fit begin h) tt
+moves_fit begin (stops {p} {q} {w} id s is e h) = act_more w.acts (Tell (Stop s.supi id)) (moves_fit begin h) tt
 moves_fit begin (puts s e h) = moves_fit begin h
 moves_fit begin (links number supi waiting h) = moves_fit begin h
 moves_fit begin (homes home h) = moves_fit begin h

@@ -1,6 +1,7 @@
 pub mod AnswerRows
 pub mod Chains
 pub mod ChallengeRows
+pub mod ConsistencyLaws
 pub mod DeliveryRows
 pub mod EventRows
 pub mod FitLaws
@@ -11,9 +12,11 @@ pub mod LinkRecords
 pub mod MarkLaws
 pub mod Moves
 pub mod OtherLaws
+pub mod OwnTimerLaws
 pub mod PassedLaws
 pub mod PlainLaws
 pub mod Records
+pub mod RecordLaws
 pub mod RegistrationRows
 pub mod StepRows
 pub mod SupiLaws

@@ -4,7 +4,7 @@ use Rattle.std.proofs.lemmas.Bool.Decides.{nat_tests}
 use Rattle.milenage.specs.Home.{HomeRecord}
 use Rattle.amf_core.specs.Delivery.{freshened, received}
 use Rattle.amf_core.specs.Framing.{Framed, framed, framed_all}
-use Rattle.amf_core.specs.State.{AmfState, is_same_link, link_in}
+use Rattle.amf_core.specs.State.{AmfState, link_in}
 use Rattle.amf_core.specs.Step.{ended, started, worked}
 use Rattle.nas_timers.specs.Durations.{deadline_after, duration_of}
 use Rattle.amf_core.specs.Work.{Work, config_of, link_of, put, put_link}
@@ -25,7 +25,6 @@ use Rattle.amf_laws.proofs.FramedFit.Sends.{unsent, goes, counts}
 use Rattle.amf_laws.proofs.LinkRecords.{link_number, stays_unset, unset_link}
 use Rattle.amf_laws.proofs.Moves.{Beginning, Moves, Settled}
 use Rattle.amf_laws.proofs.Moves.Moves.{here, said, asked, starts, stops, puts, links, homes, numbers}
-use Rattle.amf_laws.proofs.PassedLaws.{freshened_at_start}
 use Rattle.amf_laws.proofs.TimerLaws.{any_may}
 use Rattle.amf_laws.specs.Passing.{SecuresWherePassing, Uplinks, has_passed}
 use Rattle.amf_laws.specs.Timers.{Running}
@@ -142,9 +141,9 @@ moves_unset : (n : ℕ) {May : List ℕ → Type 0} {b : Beginning} {p q : Runni
 unfolding put
 moves_unset n begin here = begin
 moves_unset n begin (said number protection message may h) = moves_unset n begin h
-moves_unset n begin (asked call s h) = moves_unset n begin h
-moves_unset n begin (starts id s e h) = moves_unset n begin h
-moves_unset n begin (stops id s e h) = moves_unset n begin h
+moves_unset n begin (asked call s is e h) = moves_unset n begin h
+moves_unset n begin (starts id s is e h) = moves_unset n begin h
+moves_unset n begin (stops id s is e h) = moves_unset n begin h
 moves_unset n begin (puts s e h) = moves_unset n begin h
 moves_unset n begin (links {p} {q} {w} number supi waiting h) = put_unset n number supi waiting w (moves_unset n begin h)
 moves_unset n begin (homes home h) = moves_unset n begin h
@@ -155,11 +154,11 @@ unfolding put put_link
 moves_told begin here = begin
 moves_told begin (said {p} {q} {w} number protection message may h) =
     act_more w.acts (Say number protection message) (moves_told begin h)
-moves_told begin (asked {p} {q} {w} call s h) =
+moves_told begin (asked {p} {q} {w} call s is e h) =
     act_more w.acts (Tell (Smf (record { supi = s.supi; call = call }))) (moves_told begin h)
-moves_told begin (starts {p} {q} {w} id s e h) =
+moves_told begin (starts {p} {q} {w} id s is e h) =
     act_more w.acts (Tell (Start s.supi id (deadline_after w.moment (duration_of id (config_of w).durations)))) (moves_told begin h)
-moves_told begin (stops {p} {q} {w} id s e h) =
+moves_told begin (stops {p} {q} {w} id s is e h) =
     act_more w.acts (Tell (Stop s.supi id)) (moves_told begin h)
 moves_told begin (puts s e h) = moves_told begin h
 moves_told begin (links number supi waiting h) = moves_told begin h

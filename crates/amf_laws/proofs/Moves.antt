@@ -1,6 +1,5 @@
 -- The small changes that a row is made of, where it has one subscriber.
 use Rattle.std.proofs.Common.{◌≡◌, subst, ℕ, true, false, List, Option, Some}
-use Rattle.nas_elements.specs.declared.guti.Guti.{Guti}
 use Rattle.nas_timers.specs.declared.timer_id.TimerId.{TimerId}
 use Rattle.milenage.specs.Home.{HomeRecord}
 use Rattle.mm_messages.specs.declared.message.Mm.{Mm}
@@ -14,13 +13,14 @@ use Rattle.amf_core.specs.declared.outs.SmfAsk.{SmfAsk}
 use Rattle.amf_core.specs.declared.requests.Request.{Request}
 use Rattle.amf_core.specs.declared.subscriber.Record.{Record}
 use Rattle.nas_base.proofs.Branching.{per_holds, when_holds}
+use Rattle.amf_laws.specs.Consistency.{IsConsistent}
 use Rattle.amf_laws.specs.Kept.{AreFew}
+use Rattle.amf_laws.specs.OwnTimers.{is_of_procedure, names_session}
 use Rattle.amf_laws.specs.Timers.{Running, running_in, with_timer}
 
--- a subscriber's SUPI and kept 5G-GUTIs, the step so far, which of its timers run by what was told, and which by its procedure
+-- a subscriber's record, the step so far, which of its timers run by what was told, and which by its procedure
 pub record Beginning : Type 0 where
-  pub supi : List ℕ
-  pub kept : List Guti
+  pub subscriber : Record
   pub first : Work
   pub told : Running
   pub opened : Running
@@ -31,19 +31,21 @@ MayProtect May Plain = Unit {0}
 MayProtect May (Ciphered supi) = May supi
 MayProtect May (IntegrityProtectedWithNewContext supi) = May supi
 
--- A record of the subscriber: it has its SUPI, which may change, and keeps two 5G-GUTIs at most, where it did.
+-- A record of the subscriber: it has its SUPI, which may change, keeps two 5G-GUTIs at most, where it did, and is consistent, where it was.
 abbrev pub Own : (List ℕ → Type 0) → Beginning → Record → Type 0
-Own May b s = (s.supi ≡ b.supi) × (AreFew b.kept → AreFew s.kept) × May s.supi
+Own May b s =
+    (s.supi ≡ b.subscriber.supi) × (AreFew b.subscriber.kept → AreFew s.kept) × May s.supi × (IsConsistent b.subscriber → IsConsistent s)
 
 -- What was reached from there, with the timers that run by what was told and by the procedure.
 pub data Moves (May : List ℕ → Type 0) (b : Beginning) : Running → Running → Work → Type 0 where
   here : Moves May b b.told b.opened b.first
   said : {p q : Running} {w : Work} (number : ℕ) (protection : Protection) (message : Mm) → MayProtect May protection → Moves May b p q w
       → Moves May b p q (say number protection message w)
-  asked : {p q : Running} {w : Work} (call : SmfAsk) (s : Record) → Moves May b p q w → Moves May b p q (ask call s w)
-  starts : {p q : Running} {w : Work} (id : TimerId) (s : Record) → Own May b s → Moves May b p q w
+  asked : {p q : Running} {w : Work} (call : SmfAsk) (s : Record) → names_session call ≡ true → Own May b s → Moves May b p q w
+      → Moves May b p q (ask call s w)
+  starts : {p q : Running} {w : Work} (id : TimerId) (s : Record) → is_of_procedure id ≡ true → Own May b s → Moves May b p q w
       → Moves May b (with_timer id true p) q (start id s w)
-  stops : {p q : Running} {w : Work} (id : TimerId) (s : Record) → Own May b s → Moves May b p q w
+  stops : {p q : Running} {w : Work} (id : TimerId) (s : Record) → is_of_procedure id ≡ true → Own May b s → Moves May b p q w
       → Moves May b (with_timer id false p) q (stop id s w)
   puts : {p q : Running} {w : Work} (s : Record) → Own May b s → Moves May b p q w → Moves May b p (running_in s.procedure) (put s w)
   links : {p q : Running} {w : Work} (number : ℕ) (supi : Option (List ℕ)) (waiting : Option Request) → Moves May b p q w
@@ -77,7 +79,7 @@ own_protection_may May l may =
 
 -- where a row begins that has this subscriber
 abbrev pub begins : Record → Work → Beginning
-begins s w = record { supi = s.supi; kept = s.kept; first = w; told = running_in s.procedure; opened = running_in s.procedure }
+begins s w = record { subscriber = s; first = w; told = running_in s.procedure; opened = running_in s.procedure }
 
 -- the same timers by other names
 pub told_as : {May : List ℕ → Type 0} {b : Beginning} {q : Running} {w : Work} (p other : Running) → p ≡ other → Moves May b p q w → Moves May b other q w

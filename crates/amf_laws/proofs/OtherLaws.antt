@@ -18,9 +18,9 @@ use Rattle.amf_core.specs.Framing.{Framed, framed, framed_all}
 use Rattle.amf_core.specs.Keyed.{found}
 use Rattle.amf_core.specs.Naming.{is_any, is_guti, keeps_guti, keeps_stmsi, kept_for, suci_digits}
 use Rattle.amf_core.specs.SecurityMode.{commanding_on}
-use Rattle.amf_core.specs.State.{AmfState, link_in, subscriber_in}
-use Rattle.amf_core.specs.Step.{ended, finished, framed_of, started, step_of, worked}
-use Rattle.amf_core.specs.Work.{Work, config_of, link_of, put, put_link, subscriber, subscriber_of_link}
+use Rattle.amf_core.specs.State.{AmfState, subscriber_in}
+use Rattle.amf_core.specs.Step.{ended, finished, started, step_of, worked}
+use Rattle.amf_core.specs.Work.{Work, config_of, link_of, put, put_link, subscriber_of_link}
 use Rattle.amf_core.specs.declared.acts.Act.{Act}
 use Rattle.amf_core.specs.declared.acts.Act.TheVariants.{Say, Tell}
 use Rattle.amf_core.specs.declared.acts.Protection.{Protection}
@@ -28,7 +28,6 @@ use Rattle.amf_core.specs.declared.acts.Protection.TheVariants.{Plain, Ciphered,
 use Rattle.amf_core.specs.declared.inputs.AmfInput.{AmfInput}
 use Rattle.amf_core.specs.declared.inputs.AmfInput.TheVariants.{Uplink, Expired, Authenticate, Deregister, Update, Fence, Sessions, Down, Dropped}
 use Rattle.amf_core.specs.declared.inputs.AmfRefusal.{AmfRefusal}
-use Rattle.amf_core.specs.declared.link.Link.{Link}
 use Rattle.amf_core.specs.declared.outs.AmfOut.TheVariants.{Passed, Smf, Start, Stop}
 use Rattle.amf_core.specs.declared.subscriber.Record.{Record}
 use Rattle.nas_base.proofs.Branching.{per_holds, when_holds}
@@ -76,11 +75,11 @@ unfolding put put_link
 moves_for May begin here = begin
 moves_for May begin (said {p} {q} {w} number protection message may h) =
     act_more May w.acts (Say number protection message) (moves_for May begin h) may
-moves_for May begin (asked {p} {q} {w} call s h) =
+moves_for May begin (asked {p} {q} {w} call s is e h) =
     act_more May w.acts (Tell (Smf (record { supi = s.supi; call = call }))) (moves_for May begin h) tt
-moves_for May begin (starts {p} {q} {w} id s e h) =
+moves_for May begin (starts {p} {q} {w} id s is e h) =
     act_more May w.acts (Tell (Start s.supi id (deadline_after w.moment (duration_of id (config_of w).durations)))) (moves_for May begin h) tt
-moves_for May begin (stops {p} {q} {w} id s e h) = act_more May w.acts (Tell (Stop s.supi id)) (moves_for May begin h) tt
+moves_for May begin (stops {p} {q} {w} id s is e h) = act_more May w.acts (Tell (Stop s.supi id)) (moves_for May begin h) tt
 moves_for May begin (puts s e h) = moves_for May begin h
 moves_for May begin (links number supi waiting h) = moves_for May begin h
 moves_for May begin (homes home h) = moves_for May begin h
@@ -151,7 +150,7 @@ comes_stays May x a w not_x (chains u at_start h) = record {
   acts = chain_for May (start_for May a u.first at_start) h;
 }
 comes_stays May x a w not_x (settles b s one done) = record {
-  found = other_stays x (ap (λ (y : List ℕ). bytes_eq y x) one.supi ∙ other_than May x s.supi not_x one.may) done.moves
+  found = other_stays x (ap (λ (y : Record). bytes_eq y.supi x) one.is ∙ other_than May x s.supi not_x one.may) done.moves
       ∙ start_stays x a b.first one.at_start;
   acts = moves_for May (start_for May a b.first one.at_start) done.moves;
 }

@@ -1,12 +1,10 @@
 -- What is told of passes, behind a row and behind a step.
-use Rattle.std.proofs.Common.{◌≡◌, refl, sym, ap, subst, inl, inr, ◌<◌, ℕ, Bool, false, List, [], ◌∷◌, ◌++◌, get_or, Option, Some, None}
+use Rattle.std.proofs.Common.{◌≡◌, refl, sym, subst, inl, inr, ◌<◌, ℕ, Bool, false, List, [], ◌∷◌, ◌++◌, get_or, Option, Some, None}
 use Rattle.nas_base.specs.declared.count.Dir.TheVariants.{Up}
 use Rattle.milenage.specs.Home.{HomeRecord}
-use Rattle.nas_security.specs.Contexts.{SecurityContext}
-use Rattle.nas_security.specs.Passing.{Passes}
 use Rattle.nas_security.specs.declared.sends.Pass.{Pass}
 use Rattle.mm_entity.proofs.OpeningLaws.{something_passes}
-use Rattle.mm_entity.specs.Opening.{Opened, opened}
+use Rattle.mm_entity.specs.Opening.{opened}
 use Rattle.amf_core.specs.Checks.{Passage, checked_in_use, checked_pending, passed_in_use, passed_pending}
 use Rattle.amf_core.specs.Delivery.{freshened, received}
 use Rattle.amf_core.specs.Framing.{Framed, framed, framed_all}
@@ -88,11 +86,11 @@ unfolding put put_link
 moves_passed P begin here = begin
 moves_passed P begin (said {p} {q} {w} number protection message may h) =
     act_more P w.acts (Say number protection message) (moves_passed P begin h) tt
-moves_passed P begin (asked {p} {q} {w} call s h) =
+moves_passed P begin (asked {p} {q} {w} call s is e h) =
     act_more P w.acts (Tell (Smf (record { supi = s.supi; call = call }))) (moves_passed P begin h) tt
-moves_passed P begin (starts {p} {q} {w} id s e h) =
+moves_passed P begin (starts {p} {q} {w} id s is e h) =
     act_more P w.acts (Tell (Start s.supi id (deadline_after w.moment (duration_of id (config_of w).durations)))) (moves_passed P begin h) tt
-moves_passed P begin (stops {p} {q} {w} id s e h) =
+moves_passed P begin (stops {p} {q} {w} id s is e h) =
     act_more P w.acts (Tell (Stop s.supi id)) (moves_passed P begin h) tt
 moves_passed P begin (puts s e h) = moves_passed P begin h
 moves_passed P begin (links number supi waiting h) = moves_passed P begin h

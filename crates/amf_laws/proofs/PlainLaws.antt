@@ -14,7 +14,7 @@ use Rattle.amf_core.specs.Step.{ended, worked}
 use Rattle.amf_core.specs.Work.{Work, link_of, status}
 use Rattle.nas_base.proofs.Branching.{when_false, when_true}
 use Rattle.amf_laws.proofs.UncheckedLaws.{fits, header_is, unsecured_either}
-use Rattle.amf_laws.specs.Passing.{AreReadPlain, Does, PlainDoByKind, Uplinks, found_by}
+use Rattle.amf_laws.specs.Passing.{Does, PlainDoByKind, Uplinks, found_by}
 
 -- plain octets are read
 are_read : (number : ℕ) (octets : List ℕ) (w : Work) → is_mm octets ≡ true → length octets ≤ 4096 → header_of octets ≡ 0

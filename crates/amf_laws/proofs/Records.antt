@@ -171,6 +171,19 @@ pub found_among : (is : Record → Bool) (subscribers : List Record) (s : Record
 found_among is [] s e = absurd (cc)
 found_among is (x ∷ subscribers) s e = among_first is x subscribers s (is x) (found_among is subscribers s) e
 
+-- of whom is among them a record is found
+first_some : (s x : Record) (subscribers : List Record) (same : Bool) → bytes_eq x.supi s.supi ≡ same
+    → (IsAmong s subscribers → is_some (subscriber_in s.supi subscribers) ≡ true) → IsAmong s (x ∷ subscribers)
+    → is_some (if same then Some x else subscriber_in s.supi subscribers) ≡ true
+first_some s x subscribers true e rest h = refl
+first_some s x subscribers false e rest (inl is) =
+    let own : bytes_eq x.supi s.supi ≡ true = ap (λ (y : Record). bytes_eq y.supi s.supi) is ∙ equals_itself s.supi in absurd (cc)
+first_some s x subscribers false e rest (inr h) = rest h
+
+pub among_some : (s : Record) (subscribers : List Record) → IsAmong s subscribers → is_some (subscriber_in s.supi subscribers) ≡ true
+among_some s [] h = absurd h
+among_some s (x ∷ subscribers) h = first_some s x subscribers (bytes_eq x.supi s.supi) refl (among_some s subscribers) h
+
 -- and what is put in the place of one that is among them is among them
 pub put_among : (old new : Record) (subscribers : List Record) → new.supi ≡ old.supi
     → IsAmong old subscribers → IsAmong new (put_in is_same_subscriber new subscribers)

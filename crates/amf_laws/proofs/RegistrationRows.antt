@@ -1,4 +1,5 @@
 -- The moves of registrations of one subscriber, and of de-registrations.
+use Rattle.std.specs.Prelude.{is_some}
 use Rattle.std.proofs.Common.{◌≡◌, refl, subst, ◌&&◌, ℕ, ◌^◌, true, nat_lt, List, [], ◌∷◌, arith, Option, Some}
 use Rattle.nas_timers.specs.declared.timer_id.TimerId.TheVariants.{T3522, T3550}
 use Rattle.nas_elements.specs.declared.guti.Guti.{Guti}
@@ -56,10 +57,11 @@ requested_settles {May} {b} {w} number passed r s e link h =
     (λ _. settled (said number _ _ (own_protection_may May (link_of number w) link) h))
 
 -- an acceptance
-released_moves : {May : List ℕ → Type 0} {b : Beginning} {p q : Running} {w : Work} (whole : Whole) (s : Record) → Moves May b p q w → Moves May b p q (released whole s w)
-released_moves {May} {b} {p} {q} {w} whole s h =
-    when_holds (λ (x : Work). Moves May b p q x) (is_initial whole.registration) _ _ (λ _. asked _ s h)
-    (λ _. per_holds (λ (x : Work). Moves May b p q x) whole.status w _ (λ _. h) (λ held _. asked _ s h))
+released_moves : {May : List ℕ → Type 0} {b : Beginning} {p q : Running} {w : Work} (whole : Whole) (s : Record) → Own May b s
+    → Moves May b p q w → Moves May b p q (released whole s w)
+released_moves {May} {b} {p} {q} {w} whole s e h =
+    when_holds (λ (x : Work). Moves May b p q x) (is_initial whole.registration) _ _ (λ _. asked _ s refl e h)
+    (λ _. per_holds (λ (x : Work). Moves May b p q x) whole.status w _ (λ _. h) (λ held _. asked _ s refl e h))
 
 kept_with_few : (named : Option Guti) (g : Guti) (kept : List Guti) → AreFew (kept_with named g kept)
 kept_with_few named g kept =
@@ -67,21 +69,23 @@ kept_with_few named g kept =
     (λ y _. when_holds (λ (x : List Guti). AreFew x) (is_any (is_guti y) kept) (y ∷ g ∷ []) (g ∷ []) (λ _. omega arith) (λ _. omega arith))
 
 offered_moves : {May : List ℕ → Type 0} {b : Beginning} {q : Running} {w : Work} (number : ℕ) (r : Request) (whole : Whole) (challenge : Challenge) (s : Record)
-    → Own May b s → Moves May b none_runs q w
+    → Own May b s → is_some s.in_use ≡ true → Moves May b none_runs q w
     → Moves May b (with_timer T3550 true none_runs) (with_timer T3550 true none_runs) (offered number r whole challenge s w)
-offered_moves {May} {b} {q} {w} number r whole challenge s e h =
+offered_moves {May} {b} {q} {w} number r whole challenge s e used h =
     let a : Accepting = record { request = r; guti = new_guti (config_of w) (tmsi_of w); status = told_sessions whole s; sendings = 1 } in
     let new : Record = opened_acceptance a whole.guti challenge s in
-    let few : Own May b new = (e.0, λ kept. kept_with_few whole.guti a.guti s.kept, e.2) in
-    starts T3550 new few (said number (Ciphered s.supi) _ e.2 (puts new few (numbers h)))
+    let own : Own May b new =
+    (e.0, λ few. kept_with_few whole.guti a.guti s.kept, e.2, λ is. (λ registered. (used, refl), λ completed. absurd (cc))) in
+    starts T3550 new refl own (said number (Ciphered s.supi) _ e.2 (puts new own (numbers h)))
 
 pub goes_on_settles : {May : List ℕ → Type 0} {b : Beginning} {w : Work} (number : ℕ) (r : Request) (whole : Whole) (context : SecurityContext) (s : Record)
-    → Own May b s → Moves May b none_runs none_runs w → Settled May b (registration_goes_on number r whole context s w)
+    → Own May b s → is_some s.in_use ≡ true → Moves May b none_runs none_runs w
+    → Settled May b (registration_goes_on number r whole context s w)
 unfolding registration_goes_on
-goes_on_settles {May} {b} {w} number r whole context s e h =
+goes_on_settles {May} {b} {w} number r whole context s e used h =
     when_holds (λ (x : Work). Settled May b x) (nat_lt (tmsi_of (released whole s w)) (2 ^ 32)) _ _
-    (λ _. settled (offered_moves number r whole context.challenge s e (released_moves whole s h)))
-    (λ _. settled (said number _ _ (by_link_may May (link_of number (released whole s w)) s.supi e.2) (released_moves whole s h)))
+    (λ _. settled (offered_moves number r whole context.challenge s e used (released_moves whole s e h)))
+    (λ _. settled (said number _ _ (by_link_may May (link_of number (released whole s w)) s.supi e.2) (released_moves whole s e h)))
 
 acceptance_ended_settles : {May : List ℕ → Type 0} {b : Beginning} {w : Work} (procedure : Procedure) (s : Record) → Own May b s → s.procedure ≡ procedure
     → Moves May b (running_in s.procedure) (running_in s.procedure) w → Settled May b (acceptance_ended procedure s w)
@@ -91,21 +95,25 @@ acceptance_ended_settles (procedures.Challenging c) s e is h = settled (puts s e
 acceptance_ended_settles (procedures.Updating u) s e is h = settled (puts s e h)
 acceptance_ended_settles (procedures.Deregistering d) s e is h = settled (puts s e h)
 
-pub one_few : (g : Guti) → AreFew (g ∷ [])
-one_few g = omega arith
+-- a 5G-GUTI that is confirmed is kept alone
+pub confirmed_own : (May : List ℕ → Type 0) (b : Beginning) (g : Guti) (s : Record) → Own May b s → Own May b (confirmed g s)
+confirmed_own May b g s e = (e.0, λ few. omega arith, e.2, λ is. ((e.3 is).0, λ completed. refl))
 
 pub completed_settles : {May : List ℕ → Type 0} {b : Beginning} {w : Work} (challenge : Challenge) (s : Record) → Own May b s
     → Moves May b (running_in s.procedure) (running_in s.procedure) w → Settled May b (registration_completed challenge s w)
 unfolding registration_completed
 completed_settles {May} {b} {w} challenge s e h =
     per_holds (λ (x : Work). Settled May b x) (offered_by Accept challenge s) w _ (λ _. settled h)
-    (λ g _. acceptance_ended_settles s.procedure (confirmed g s) (e.0, λ kept. one_few g, e.2) refl h)
+    (λ g _. acceptance_ended_settles s.procedure (confirmed g s) (confirmed_own May b g s e) refl h)
 
 -- a de-registration
+pub unregistered_own : (May : List ℕ → Type 0) (b : Beginning) (s : Record) → Own May b s → Own May b (unregistered s)
+unregistered_own May b s e = (e.0, e.1, e.2, λ is. (λ registered. absurd (cc), (e.3 is).1))
+
 deregistered_moves : {May : List ℕ → Type 0} {b : Beginning} {q : Running} {w : Work} (s : Record) → Own May b s
     → Moves May b (running_in s.procedure) q w → Moves May b none_runs none_runs (deregistered s w)
 unfolding deregistered
-deregistered_moves s e h = asked _ s (puts (unregistered s) e (stopped_moves s e h))
+deregistered_moves {May} {b} s e h = asked _ s refl e (puts (unregistered s) (unregistered_own May b s e) (stopped_moves s e h))
 
 pub deregistration_requested_settles : {May : List ℕ → Type 0} {b : Beginning} {w : Work} (m : DeregistrationRequestUeOriginating) (number : ℕ) (s : Record) → Own May b s
     → Moves May b (running_in s.procedure) (running_in s.procedure) w → Settled May b (deregistration_requested m number s w)
@@ -124,4 +132,4 @@ deregistration_accepted_settles {May} {b} {w} number s e h =
 pub deregistration_put_moves : {May : List ℕ → Type 0} {b : Beginning} {p q : Running} {w : Work} (d : Deregistering) (s : Record) → Own May b s
     → Moves May b p q w → Moves May b (with_timer T3522 true p) (with_timer T3522 true none_runs) (deregistration_put d s w)
 deregistration_put_moves d s e h =
-    starts T3522 s e (say_on_moves s.link (Ciphered s.supi) _ e.2 (puts (record s { procedure = procedures.Deregistering d }) e h))
+    starts T3522 s refl e (say_on_moves s.link (Ciphered s.supi) _ e.2 (puts (record s { procedure = procedures.Deregistering d }) e h))

@@ -16,7 +16,7 @@ use Rattle.amf_laws.proofs.Chains.{Chain, Received, kept_now}
 use Rattle.amf_laws.proofs.Chains.Chain.{nothing, speaks, waits, passes, does}
 use Rattle.amf_laws.proofs.FramedFit.{Sends, framed_now, says_send}
 use Rattle.amf_laws.proofs.FramedFit.Sends.{unsent, goes, counts}
-use Rattle.amf_laws.proofs.KeptLaws.{any_have}
+use Rattle.amf_laws.proofs.RecordLaws.{any_have}
 use Rattle.amf_laws.proofs.Moves.{Beginning, Moves}
 use Rattle.amf_laws.proofs.Moves.Moves.{here, said, asked, starts, stops, puts, links, homes, numbers}
 use Rattle.amf_laws.proofs.PassedLaws.{IsAtStart}
@@ -37,9 +37,9 @@ moves_supis : {May : List ℕ → Type 0} {b : Beginning} {p q : Running} {w : W
 unfolding put put_link
 moves_supis here = refl
 moves_supis (said number protection message may h) = moves_supis h
-moves_supis (asked call s h) = moves_supis h
-moves_supis (starts id s e h) = moves_supis h
-moves_supis (stops id s e h) = moves_supis h
+moves_supis (asked call s is e h) = moves_supis h
+moves_supis (starts id s is e h) = moves_supis h
+moves_supis (stops id s is e h) = moves_supis h
 moves_supis (puts s e h) = put_supis s _ ∙ moves_supis h
 moves_supis (links number supi waiting h) = moves_supis h
 moves_supis (homes home h) = moves_supis h

@@ -5,7 +5,7 @@ use Rattle.nas_base.specs.Branches.{per}
 use Rattle.nas_timers.specs.declared.timer_id.TimerId.{TimerId}
 use Rattle.nas_timers.specs.declared.timer_id.TimerId.TheVariants.{T3510, T3516, T3517, T3521, T3522, T3550, T3555, T3560, T3580, T3581, T3582, T3591, T3592}
 use Rattle.milenage.specs.Home.{HomeRecord}
-use Rattle.amf_core.specs.Commands.{authenticate, authenticated, deregister, left, update, updated}
+use Rattle.amf_core.specs.Commands.{authenticate, authenticated, deregister, left, update, update_begun}
 use Rattle.amf_core.specs.Delivery.{freshened, received}
 use Rattle.amf_core.specs.Events.{carried_down, dropped, expired, fenced, fenced_of, link_lost_of, lost_for, of_supi, sessions_told, sessions_told_of}
 use Rattle.amf_core.specs.Framing.{Framed}
@@ -21,7 +21,7 @@ use Rattle.amf_laws.proofs.AnswerRows.{brought_down_moves}
 use Rattle.nas_base.proofs.Branching.{per_holds, when_holds}
 use Rattle.amf_laws.proofs.Chains.{Chain, Received, found_before, kept_now}
 use Rattle.amf_laws.proofs.DeliveryRows.{MayReceive, received_chain}
-use Rattle.amf_laws.proofs.EventRows.{SettledBy, authenticated_settles, expired_settles, fenced_settles, left_settles, lost_settles, sessions_settle, updated_settles}
+use Rattle.amf_laws.proofs.EventRows.{SettledBy, authenticated_settles, expired_settles, fenced_settles, left_settles, lost_settles, sessions_settle, update_begun_settles}
 use Rattle.amf_laws.proofs.FitLaws.{Fits, IsBegun, chain_distinct, chain_fits, fit_begins, moves_distinct, settled_fits}
 use Rattle.amf_laws.proofs.FramedFit.{Leaves, acts_distinct, acts_leave}
 use Rattle.amf_laws.proofs.Moves.{Beginning, Settled, begins, settled}
@@ -110,7 +110,7 @@ received_left x r number octets w h =
 expired_begins : (x : List ℕ) (running : Running) (supi : List ℕ) (id : TimerId) (s : Record) (w : Work) (own : Bool) → bytes_eq supi x ≡ own
     → w.acts ≡ [] → running ≡ running_for (subscriber_in x (kept_now w)) → subscriber supi w ≡ Some s
     → IsBegun x (if own then with_timer id false running else running)
-    (record { supi = s.supi; kept = s.kept; first = w; told = with_timer id false (running_in s.procedure); opened = running_in s.procedure })
+    (record { subscriber = s; first = w; told = with_timer id false (running_in s.procedure); opened = running_in s.procedure })
 expired_begins x running supi id s w true own acts e found =
     let at_x : subscriber_in x (kept_now w) ≡ Some s =
     subst (λ (y : List ℕ). subscriber_in y (kept_now w) ≡ Some s) (are_equal supi x own) found in
@@ -149,7 +149,7 @@ expiry_left x running supi id w acts e distinct =
     per_holds (λ (y : Work). Left x (if bytes_eq supi x then with_timer id false running else running) y) (subscriber supi w) w _
     (λ none. record { fits = not_kept_fits x running supi id w (bytes_eq supi x) refl acts e none; distinct = distinct })
     (λ s found. settled_left distinct (expired_begins x running supi id s w (bytes_eq supi x) refl acts e found)
-    (expired_settles {May = λ (y : List ℕ). Unit {0}} id s (refl, λ few. few, tt) here))
+    (expired_settles {May = λ (y : List ℕ). Unit {0}} id s (refl, λ few. few, tt, λ is. is) here))
 
 -- a link that is lost
 link_left : (x : List ℕ) (r : Running) (number : ℕ) (w : Work) → Left x r w → Left x r (put_link (unused number) w)
@@ -159,7 +159,7 @@ link_left x r number w h = record { fits = record { fit = h.fits.fit }; distinct
 lost_left : (x : List ℕ) (r : Running) (supi : Option (List ℕ)) (number : ℕ) (w : Work) → Left x r w → Left x r (lost_for supi number w)
 lost_left x r supi number w h =
     per_holds (λ (y : Work). Left x r y) supi w _ (λ _. h)
-    (λ z _. of_supi_left x r z (link_lost_of number) w h (λ s. lost_settles number s (refl, λ few. few, tt) here))
+    (λ z _. of_supi_left x r z (link_lost_of number) w h (λ s. lost_settles number s (refl, λ few. few, tt, λ is. is) here))
 
 -- the row of each input
 input_left : (x : List ℕ) (running : List ℕ → Running) (a : AmfState) (home : List HomeRecord) (now : ℕ) (rand : List ℕ) (input : AmfInput)
@@ -173,22 +173,22 @@ input_left x running a home now rand (Expired supi id) distinct e =
     expiry_left x (running x) supi id (started a home now rand) refl e distinct
 input_left x running a home now rand (Authenticate supi) distinct e =
     of_supi_left_by x (running x) supi authenticated _ (started a home now rand) (begin x (running x) a home now rand distinct e)
-    (λ s. authenticated_settles {May = λ (y : List ℕ). Unit {0}} {b = begins s (started a home now rand)} {q = running_in s.procedure} {w = started a home now rand} s (refl, λ few. few, tt) here)
+    (λ s. authenticated_settles {May = λ (y : List ℕ). Unit {0}} {b = begins s (started a home now rand)} {q = running_in s.procedure} {w = started a home now rand} s (refl, λ few. few, tt, λ is. is) here)
 input_left x running a home now rand (Deregister supi) distinct e =
     of_supi_left_by x (running x) supi left _ (started a home now rand) (begin x (running x) a home now rand distinct e)
-    (λ s. left_settles {May = λ (y : List ℕ). Unit {0}} {b = begins s (started a home now rand)} {q = running_in s.procedure} {w = started a home now rand} s (refl, λ few. few, tt) here)
+    (λ s. left_settles {May = λ (y : List ℕ). Unit {0}} {b = begins s (started a home now rand)} {q = running_in s.procedure} {w = started a home now rand} s (refl, λ few. few, tt, λ is. is) here)
 input_left x running a home now rand (Update supi) distinct e =
-    of_supi_left_by x (running x) supi updated _ (started a home now rand) (begin x (running x) a home now rand distinct e)
-    (λ s. updated_settles {May = λ (y : List ℕ). Unit {0}} {b = begins s (started a home now rand)} {q = running_in s.procedure} {w = started a home now rand} s (refl, λ few. few, tt) here)
+    of_supi_left_by x (running x) supi update_begun _ (started a home now rand) (begin x (running x) a home now rand distinct e)
+    (λ s. update_begun_settles {May = λ (y : List ℕ). Unit {0}} {b = begins s (started a home now rand)} {q = running_in s.procedure} {w = started a home now rand} s (refl, λ few. few, tt, λ is. is) here)
 input_left x running a home now rand (Fence supi) distinct e =
     of_supi_left x (running x) supi fenced_of (started a home now rand) (begin x (running x) a home now rand distinct e)
-    (λ s. fenced_settles s (refl, λ few. few, tt) here)
+    (λ s. fenced_settles s (refl, λ few. few, tt, λ is. is) here)
 input_left x running a home now rand (Sessions supi status) distinct e =
     of_supi_left x (running x) supi (sessions_told_of status) (started a home now rand) (begin x (running x) a home now rand distinct e)
-    (λ s. sessions_settle status s (refl, λ few. few, tt) here)
+    (λ s. sessions_settle status s (refl, λ few. few, tt, λ is. is) here)
 input_left x running a home now rand (Down supi psi frame) distinct e =
     of_supi_left x (running x) supi (brought_down psi frame) (started a home now rand) (begin x (running x) a home now rand distinct e)
-    (λ s. settled (brought_down_moves psi frame s (refl, λ few. few, tt) here))
+    (λ s. settled (brought_down_moves psi frame s (refl, λ few. few, tt, λ is. is) here))
 input_left x running a home now rand (Dropped link) distinct e =
     lost_left x (running x) (link_of link (started a home now rand)).supi link (put_link (unused link) (started a home now rand))
     (link_left x (running x) link (started a home now rand) (begin x (running x) a home now rand distinct e))

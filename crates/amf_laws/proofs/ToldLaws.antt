@@ -1,5 +1,5 @@
 -- Where octets pass a check, the step tells it.
-use Rattle.std.proofs.Common.{◌≡◌, refl, true, false, ℕ, List, [], inl, inr, Option, Some, None}
+use Rattle.std.proofs.Common.{◌≡◌, refl, true, false, ℕ, List, [], inl, Option, Some, None}
 use Rattle.nas_base.proofs.Branching.{per_holds}
 use Rattle.nas_base.specs.Branches.{per}
 use Rattle.mm_messages.specs.Messages.{mm_in}

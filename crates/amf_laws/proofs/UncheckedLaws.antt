@@ -1,9 +1,8 @@
 -- Octets that pass no check.
-use Rattle.std.proofs.Common.{◌≡◌, ◌≤◌, refl, sym, ap, subst, ◌∙◌, ◌⊎◌, inl, inr, ◌<◌, ◌==◌, ◌||◌, ℕ, Bool, true, false, not, List, [], ◌∷◌, ◌++◌, drop, length, nat_lt, get_or, Option, Some, None, Result, Ok, Err, arith}
+use Rattle.std.proofs.Common.{◌≡◌, ◌≤◌, refl, sym, ap, subst, ◌∙◌, ◌⊎◌, inl, inr, ◌<◌, ◌==◌, ◌||◌, ℕ, Bool, true, false, not, List, [], ◌∷◌, ◌++◌, drop, length, nat_lt, Some, None, Result, Ok, Err, arith}
 use Rattle.std.proofs.lemmas.Bool.Decides.{nat_tests}
 use Rattle.nas_base.specs.Branches.{per}
 use Rattle.milenage.specs.Home.{HomeRecord}
-use Rattle.nas_security.specs.Contexts.{SecurityContext}
 use Rattle.mm_messages.specs.Messages.{mm_in, spelling}
 use Rattle.mm_messages.specs.Service.{service_reject}
 use Rattle.mm_messages.specs.declared.message.Mm.{Mm}
@@ -12,13 +11,12 @@ use Rattle.mm_messages.specs.declared.message.MmRefusal.{MmRefusal}
 use Rattle.mm_messages.specs.declared.service.ServiceRequest.{ServiceRequest}
 use Rattle.amf_core.specs.Checks.{checked_in_use, checked_pending}
 use Rattle.mm_entity.specs.Heads.{header_of, is_mm}
-use Rattle.amf_core.specs.Delivery.{check_of, ciphered, failed, failed_request, freshened, integrity_protected, message_of, plain, plain_read, received, sender, taken_plain, under_new_context}
+use Rattle.amf_core.specs.Delivery.{ciphered, failed, failed_request, freshened, integrity_protected, message_of, plain, plain_read, received, sender, taken_plain, under_new_context}
 use Rattle.mm_entity.specs.Framing.{is_too_long}
 use Rattle.amf_core.specs.Framing.{Framed, framed, framed_all}
-use Rattle.amf_core.specs.SecurityMode.{commanding_on}
 use Rattle.amf_core.specs.Service.{service_refused}
 use Rattle.amf_core.specs.State.{AmfState, link_in}
-use Rattle.amf_core.specs.Step.{Stepped, ended, framed_of, started, worked}
+use Rattle.amf_core.specs.Step.{ended, framed_of, started, worked}
 use Rattle.amf_core.specs.Work.{Work, answer, link_of, own_protection, put_link, subscriber_of_link}
 use Rattle.amf_core.specs.declared.acts.Act.{Act}
 use Rattle.amf_core.specs.declared.acts.Act.TheVariants.{Say}
@@ -26,14 +24,13 @@ use Rattle.amf_core.specs.declared.acts.Protection.{Protection}
 use Rattle.amf_core.specs.declared.acts.Protection.TheVariants.{Plain}
 use Rattle.amf_core.specs.declared.link.Link.{Link}
 use Rattle.amf_core.specs.declared.outs.AmfOut.TheVariants.{Send}
-use Rattle.amf_core.specs.declared.subscriber.Record.{Record}
 use Rattle.nas_base.proofs.Branching.{per_holds, when_false, when_holds, when_true}
 use Rattle.amf_laws.proofs.Chains.{Received, link_is_current}
 use Rattle.amf_laws.proofs.DeliveryRows.{sender_is_current}
 use Rattle.amf_laws.proofs.MarkLaws.{fresh_unset}
 use Rattle.amf_laws.proofs.PassedLaws.{IsAtStart}
 use Rattle.amf_laws.proofs.ToldLaws.{IsSilent, in_use_fails, passing_is_loud}
-use Rattle.amf_laws.specs.Passing.{AreRead, FailedRequestsRejected, IsAmong, IsAnsweredUnchecked, IsRejected, IsUnsecured, MayDoUnchecked, UncheckedDoNothing, service_rejected}
+use Rattle.amf_laws.specs.Passing.{AreRead, FailedRequestsRejected, IsAnsweredUnchecked, IsRejected, IsUnsecured, MayDoUnchecked, UncheckedDoNothing, service_rejected}
 
 -- header type 1
 integrity_fails : (number : ℕ) (octets : List ℕ) (w : Work) → IsSilent (integrity_protected number octets w)

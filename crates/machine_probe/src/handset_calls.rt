@@ -12,11 +12,16 @@
 //!     tick:MS                 the moment is told, at most 10^15
 //!     drop, restart
 //!     copy                    a copy of the handset goes on in its place
+//!     establish:PSI:KIND:DNN, modify:PSI:OCTETS, release:PSI
+//!                             commands to a session, as session_words reads them
+//!     session:PSI             a session is looked at
 //!
-//! The answer has a step for each INPUT, with a blank between. A step is what came of it, and then what can be seen, with commas
-//! between. What comes of it is some of these, in this order, where a PASS is SUPI.SQN.RAND.COUNT:
+//! The answer has a step for each INPUT, with a blank between. Of `session` it is that session, as session_words writes it. Any other step is
+//! what came of it, and then what can be seen, with commas between. What comes of it is some of these, in this order, where a PASS is
+//! SUPI.SQN.RAND.COUNT:
 //!
-//!     refused:wrong_state:STATE, refused:spent:NEXT
+//!     refused:wrong_state:STATE, refused:no_such_session:PSI, refused:session_there:PSI, refused:busy:STATE,
+//!     refused:semantic:RULE, refused:too_many:COUNT, refused:no_pti:LAST, refused:spent:NEXT
 //!     passed:PASS
 //!     took:CONTEXT            NGKSI.SQN.RAND.KAMF.NEA.NIA.KNASENC.KNASINT.UP.DOWN
 //!     fresh:OCTETS:PASS       a message is sent, the first of its connection; `plain` in place of the PASS of a plain one
@@ -58,7 +63,7 @@ fn walk(alloc: Global, sqn: &str, capability: &str, inputs: &[&str]) -> Result<S
     let config = config(sequence_number(sqn)?, capability)?;
     let mut course = Course::new(alloc, &config)?;
     for word in inputs {
-        course.go(alloc, handset_inputs::read_input(alloc, word)?)?;
+        course.go(alloc, handset_inputs::read_word(alloc, word)?)?;
     }
     Ok(course.told)
 }

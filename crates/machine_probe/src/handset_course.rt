@@ -1,10 +1,11 @@
 //! A handset on its way through inputs.
 
-use crate::handset_inputs::Input;
+use crate::handset_inputs::{Input, Word};
 use crate::handset_texts::{delivery_text, refusal_text, sends_text, view_text};
 use nas_base::Moment;
 use nas_handset::{Handset, UeCommand};
 use probe_words::{Refusal, push};
+use session_words::handset_session_text;
 use std::alloc::Global;
 use ue_mm::HandsetConfig;
 
@@ -25,15 +26,24 @@ impl Course {
         })
     }
 
-    /// What comes of the next input, behind the other answers.
-    pub fn go(&mut self, alloc: Global, input: Input) -> Result<(), Refusal> {
-        let came = self.came(alloc, input)?;
-        let view = view_text(alloc, &self.handset.view())?;
+    /// What comes of the next word, behind the other answers.
+    pub fn go(&mut self, alloc: Global, word: Word) -> Result<(), Refusal> {
+        let answer = match word {
+            Word::Session(psi) => handset_session_text(alloc, &self.handset.session(psi))?,
+            Word::Input(input) => self.step(alloc, input)?,
+        };
         if !self.told.is_empty() {
             push(&mut self.told, " ")?;
         }
-        push(&mut self.told, came.as_str())?;
-        push(&mut self.told, view.as_str())
+        push(&mut self.told, answer.as_str())
+    }
+
+    // What comes of a step, and what can be seen then.
+    fn step(&mut self, alloc: Global, input: Input) -> Result<String, Refusal> {
+        let mut answer = self.came(alloc, input)?;
+        let view = view_text(alloc, &self.handset.view())?;
+        push(&mut answer, view.as_str())?;
+        Ok(answer)
     }
 
     // What comes of an input, with a comma behind each.

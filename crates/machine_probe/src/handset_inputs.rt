@@ -1,11 +1,22 @@
 //! The words that are given to a handset; handset_calls lists them.
 
-use nas_base::{Kind, Moment};
+use nas_base::{Kind, Moment, Psi};
 use nas_handset::UeCommand;
-use probe_words::{Refusal, moment, octets};
+use probe_words::{Refusal, moment, octets, session};
+use session_words::session_command;
 use std::alloc::Global;
+use ue_mm::MmCommand;
+use ue_sm::SmCommand;
 
-/// What a word gives.
+/// What a word says.
+#[derive(Drop)]
+pub enum Word {
+    /// A session is looked at.
+    Session(Psi),
+    Input(Input),
+}
+
+/// What is given to a handset.
 #[derive(Drop)]
 pub enum Input {
     Command(UeCommand),
@@ -21,13 +32,23 @@ pub enum Input {
     Copy,
 }
 
-/// What a word gives.
-pub fn read_input(alloc: Global, word: &str) -> Result<Input, Refusal> {
+/// What a word says.
+pub fn read_word(alloc: Global, word: &str) -> Result<Word, Refusal> {
     match word.split_once(":") {
-        Some(("octets", value)) => Ok(Input::Octets(octets(alloc, value)?)),
-        Some(("tick", value)) => Ok(Input::Tick(moment(value)?)),
-        Some(_) => Err(Refusal::Unreadable),
-        None => bare(word),
+        Some(("session", value)) => Ok(Word::Session(session(value)?)),
+        Some((name, value)) => Ok(Word::Input(input_of(alloc, name, value)?)),
+        None => Ok(Word::Input(bare(word)?)),
+    }
+}
+
+fn input_of(alloc: Global, name: &str, value: &str) -> Result<Input, Refusal> {
+    match name {
+        "octets" => Ok(Input::Octets(octets(alloc, value)?)),
+        "tick" => Ok(Input::Tick(moment(value)?)),
+        _ => {
+            let command = session_command(alloc, name, value)?;
+            Ok(Input::Command(of_session(command)))
+        }
     }
 }
 
@@ -37,19 +58,37 @@ fn bare(word: &str) -> Result<Input, Refusal> {
         "drop" => Ok(Input::Drop),
         "restart" => Ok(Input::Restart),
         "copy" => Ok(Input::Copy),
-        _ => Ok(Input::Command(command(word)?)),
+        _ => Ok(Input::Command(of_mobility(mobility_command(word)?))),
     }
 }
 
-/// A command to a handset.
-pub fn command(word: &str) -> Result<UeCommand, Refusal> {
+/// A command to a handset's 5GMM.
+pub fn mobility_command(word: &str) -> Result<MmCommand, Refusal> {
     match word {
-        "register" => Ok(UeCommand::Register(Kind::Initial)),
-        "mobility" => Ok(UeCommand::Register(Kind::Mobility)),
-        "periodic" => Ok(UeCommand::Register(Kind::Periodic)),
-        "service" => Ok(UeCommand::Service),
-        "deregister" => Ok(UeCommand::Deregister { switch_off: false }),
-        "switch-off" => Ok(UeCommand::Deregister { switch_off: true }),
+        "register" => Ok(MmCommand::Register(Kind::Initial)),
+        "mobility" => Ok(MmCommand::Register(Kind::Mobility)),
+        "periodic" => Ok(MmCommand::Register(Kind::Periodic)),
+        "service" => Ok(MmCommand::Service),
+        "deregister" => Ok(MmCommand::Deregister { switch_off: false }),
+        "switch-off" => Ok(MmCommand::Deregister { switch_off: true }),
         _ => Err(Refusal::Unreadable),
+    }
+}
+
+// A command to 5GMM, as one to the handset.
+fn of_mobility(command: MmCommand) -> UeCommand {
+    match command {
+        MmCommand::Register(kind) => UeCommand::Register(kind),
+        MmCommand::Service => UeCommand::Service,
+        MmCommand::Deregister { switch_off } => UeCommand::Deregister { switch_off },
+    }
+}
+
+// A command to the sessions, as one to the handset.
+fn of_session(command: SmCommand) -> UeCommand {
+    match command {
+        SmCommand::Establish { psi, kind, dnn } => UeCommand::Establish { psi, kind, dnn },
+        SmCommand::Modify { psi, ops } => UeCommand::Modify { psi, ops },
+        SmCommand::Release { psi } => UeCommand::Release { psi },
     }
 }

@@ -8,6 +8,7 @@ use nas_elements::Guti;
 use nas_handset::{CommandRefusal, Delivery};
 use nas_security::Sends;
 use probe_words::{Refusal, none, word};
+use session_words::{fault_text, no_such_session_text};
 use std::alloc::Global;
 use ue_mm::UeView;
 
@@ -44,6 +45,13 @@ fn add_sends(alloc: Global, sends: &Sends, line: &mut String) -> Result<(), Refu
 pub fn refusal_text(alloc: Global, refusal: CommandRefusal) -> Result<String, Refusal> {
     match refusal {
         CommandRefusal::WrongState { state } => wrong_state_text(alloc, state),
+        CommandRefusal::NoSuchSession { psi } => no_such_session_text(alloc, psi),
+        CommandRefusal::SessionThere { psi } => {
+            word(format!(in alloc; "refused:session_there:{},", psi.0))
+        }
+        CommandRefusal::Busy { state } => word(format!(in alloc; "refused:busy:{state:?},")),
+        CommandRefusal::Qos(fault) => fault_text(alloc, fault),
+        CommandRefusal::NoPti { last } => word(format!(in alloc; "refused:no_pti:{last},")),
         CommandRefusal::Spent { next } => spent_text(alloc, next),
         CommandRefusal::Memory => Err(Refusal::Memory),
     }

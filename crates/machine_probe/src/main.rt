@@ -25,6 +25,7 @@ mod network_texts;
 mod network_times;
 mod run_calls;
 mod security_texts;
+mod session_times;
 
 use std::io::{self, BufRead, BufReader, BufWriter, Write};
 

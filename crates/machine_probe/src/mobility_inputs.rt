@@ -1,12 +1,12 @@
 //! The words that are given to a handset's 5GMM; mobility_calls lists them.
 
-use crate::handset_inputs::command;
-use nas_base::{Octets, Psi};
+use crate::handset_inputs::mobility_command;
+use nas_base::Psi;
 use nas_elements::{Dnn, Status};
-use nas_handset::UeCommand;
-use probe_words::{Refusal, kept, octets, quantity, session, timer};
+use probe_words::{Refusal, quantity, session, timer};
+use session_words::{message, read_dnn, read_status};
 use std::alloc::Global;
-use ue_mm::{MmCommand, UeInput};
+use ue_mm::UeInput;
 
 /// What a word gives.
 #[derive(Drop)]
@@ -21,7 +21,7 @@ pub enum Given {
 /// What a word gives.
 pub fn read_given(alloc: Global, word: &str) -> Result<Given, Refusal> {
     match word.split_once(":") {
-        Some(("held", value)) => Ok(Given::Held(status(alloc, value)?)),
+        Some(("held", value)) => Ok(Given::Held(read_status(alloc, value)?)),
         Some(("counts", value)) => counts(value),
         Some((name, value)) => Ok(Given::Input(input_of(alloc, name, value)?)),
         None => Ok(Given::Input(bare(word)?)),
@@ -42,15 +42,7 @@ fn bare(word: &str) -> Result<UeInput, Refusal> {
     match word {
         "drop" => Ok(UeInput::Dropped),
         "restart" => Ok(UeInput::Restart),
-        _ => Ok(UeInput::Command(to_mm(command(word)?))),
-    }
-}
-
-fn to_mm(command: UeCommand) -> MmCommand {
-    match command {
-        UeCommand::Register(kind) => MmCommand::Register(kind),
-        UeCommand::Service => MmCommand::Service,
-        UeCommand::Deregister { switch_off } => MmCommand::Deregister { switch_off },
+        _ => Ok(UeInput::Command(mobility_command(word)?)),
     }
 }
 
@@ -64,21 +56,13 @@ fn counts(words: &str) -> Result<Given, Refusal> {
     })
 }
 
-fn status(alloc: Global, word: &str) -> Result<Status, Refusal> {
-    Status::read(&octets(alloc, word)?).map_err(|_| Refusal::Unreadable)
-}
-
-fn message(alloc: Global, word: &str) -> Result<Octets, Refusal> {
-    kept(alloc, &octets(alloc, word)?)
-}
-
 fn carry(alloc: Global, words: &str) -> Result<UeInput, Refusal> {
     let Some((number, words)) = words.split_once(":") else {
         return Err(Refusal::Unreadable);
     };
     let psi = session(number)?;
     match words.split_once(":") {
-        Some((frame, dnn)) => carried(alloc, psi, Some(network(alloc, dnn)?), frame),
+        Some((frame, dnn)) => carried(alloc, psi, Some(read_dnn(alloc, dnn)?), frame),
         None => carried(alloc, psi, None, words),
     }
 }
@@ -86,8 +70,4 @@ fn carry(alloc: Global, words: &str) -> Result<UeInput, Refusal> {
 fn carried(alloc: Global, psi: Psi, dnn: Option<Dnn>, frame: &str) -> Result<UeInput, Refusal> {
     let frame = message(alloc, frame)?;
     Ok(UeInput::Carry { psi, dnn, frame })
-}
-
-fn network(alloc: Global, word: &str) -> Result<Dnn, Refusal> {
-    Dnn::read(&octets(alloc, word)?).map_err(|_| Refusal::Unreadable)
 }

@@ -7,30 +7,17 @@ ghost use Rattle.nas_network.specs.Config.{are_subscribers, is_subscriber};
 
 use crate::handset_config::sequence_number;
 use nas_base::{Plmn, Supi};
-use nas_elements::{Ambr, Dnn, Dnns, Nssai, Timer3};
-use nas_network::{
-    NetConfig, Subscriber, Subscribers, is_for_5g, is_pool_size, is_subscriber, pool_fits,
-};
+use nas_elements::{Nssai, Timer3};
+use nas_network::{NetConfig, Subscriber, Subscribers, is_for_5g, is_subscriber};
+use nas_pools::{is_pool_size, pool_fits};
 use nas_timers::Durations;
 use probe_words::{Refusal, duration, exactly, network, octet, octets, quantity, subscriber};
+use session_words::{SmfWords, do_kinds_fit, parts_of, read_dnns, read_smf};
 use std::alloc::Global;
 
-// What is the same for all networks of the calls, since nothing is seen of it without sessions.
-const POOL: [u8; 4] = [10, 45, 0, 2];
-
-const POOL_SIZE: u32 = 250;
-
-const DNN: [u8; 9] = *b"\x08internet";
-
-const AMBR: Ambr = Ambr {
-    down_unit: 6,
-    down: 1000,
-    up_unit: 6,
-    up: 1000,
-};
-
 /// The network of these words.
-pub fn read_config(alloc: Global, words: &str, subscribers: &str) -> Result<NetConfig, Refusal> {
+pub fn read_config(alloc: Global, words: &[&str; 6]) -> Result<NetConfig, Refusal> {
+    let [words, pools, sessions, ambr, kinds, subscribers] = *words;
     let parts = parts_of(alloc, words, ':')?;
     let [plmn, amf, tmsi, nea, tac, t3512, timers @ ..] = parts.as_slice() else {
         return Err(Refusal::Unreadable);
@@ -39,7 +26,15 @@ pub fn read_config(alloc: Global, words: &str, subscribers: &str) -> Result<NetC
     let [region, set, pointer] = exactly::<3>(amf)?;
     let subscribers = parts_of(alloc, subscribers, ',')?;
     let subscribers = read_subscribers(alloc, &plmn, subscribers.as_slice())?;
-    if !is_pool_size(POOL_SIZE) || !pool_fits(&POOL, POOL_SIZE) {
+    let SmfWords {
+        pool,
+        pool_size,
+        pool6,
+        durations,
+        ambr,
+        kinds,
+    } = read_smf(alloc, pools, sessions, ambr, kinds)?;
+    if !is_pool_size(pool_size) || !pool_fits(&pool, pool_size) || !do_kinds_fit(&pool6, &kinds) {
         return Err(Refusal::Unreadable);
     }
     Ok(NetConfig {
@@ -50,16 +45,18 @@ pub fn read_config(alloc: Global, words: &str, subscribers: &str) -> Result<NetC
         nea: ciphering(nea)?,
         tac: exactly::<3>(tac)?,
         t3512: timer(t3512)?,
-        pool: POOL,
-        pool_size: POOL_SIZE,
-        ambr: AMBR,
-        durations: read_durations(timers)?,
+        pool,
+        pool_size,
+        pool6,
+        kinds,
+        ambr,
+        durations: with_mobility(durations, timers)?,
         subscribers,
     })
 }
 
-// The durations of T3522, T3550, T3555 and T3560; all others are the standard ones.
-fn read_durations(words: &[&str]) -> Result<Durations, Refusal> {
+// The same durations with those of T3522, T3550, T3555 and T3560.
+fn with_mobility(durations: Durations, words: &[&str]) -> Result<Durations, Refusal> {
     let [t3522, t3550, t3555, t3560] = words else {
         return Err(Refusal::Unreadable);
     };
@@ -68,15 +65,8 @@ fn read_durations(words: &[&str]) -> Result<Durations, Refusal> {
         t3550: duration(t3550)?,
         t3555: duration(t3555)?,
         t3560: duration(t3560)?,
-        ..Durations::standard()
+        ..durations
     })
-}
-
-// The parts of a word, with this character between.
-fn parts_of<'a>(alloc: Global, word: &'a str, between: char) -> Result<Vec<&'a str>, Refusal> {
-    word.split(between)
-        .collect::<Vec<&str>>(alloc)
-        .map_err(|_| Refusal::Memory)
 }
 
 fn first_tmsi(word: &str) -> Result<u32, Refusal>
@@ -139,7 +129,7 @@ fn read_subscriber(
     ensures fresh { IfOk result (λ subscriber. is_subscriber subscriber.supi before.now ≡ false) }
 {
     let parts = parts_of(alloc, word, ':')?;
-    let [supi, k, opc, field, sqn, slices] = parts.as_slice() else {
+    let [supi, k, opc, field, sqn, names, slices] = parts.as_slice() else {
         return Err(Refusal::Unreadable);
     };
     let supi = new_supi(plmn, before, supi)?;
@@ -149,7 +139,7 @@ fn read_subscriber(
         opc: exactly(opc)?,
         field: field_of(field)?,
         sqn: sqn_of(sqn)?,
-        dnns: dnns(alloc)?,
+        dnns: read_dnns(alloc, names, '.')?,
         slices: Nssai::read(&octets(alloc, slices)?).map_err(|_| Refusal::Unreadable)?,
     })
 }
@@ -183,11 +173,4 @@ fn sqn_of(word: &str) -> Result<u64, Refusal>
         return Err(Refusal::Unreadable);
     }
     Ok(sqn)
-}
-
-fn dnns(alloc: Global) -> Result<Dnns, Refusal> {
-    let mut names = Vec::new(alloc);
-    let name = Dnn::read(&DNN).map_err(|_| Refusal::Unreadable)?;
-    names.push(name).map_err(|_| Refusal::Memory)?;
-    Dnns::from_items(names).ok_or(Refusal::Unreadable)
 }

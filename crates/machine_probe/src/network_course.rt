@@ -2,9 +2,10 @@
 
 use crate::network_inputs::{Input, Word};
 use crate::network_texts::{delivery_text, refusal_text, view_text};
-use nas_base::{Moment, Supi};
+use nas_base::{Moment, Psi, Supi};
 use nas_network::{NetCommand, NetConfig, Network, Subscriber};
-use probe_words::{Refusal, push};
+use probe_words::{Refusal, none, push};
+use session_words::network_session_text;
 use std::alloc::Global;
 
 // The number of links.
@@ -38,19 +39,39 @@ impl Course {
                 self.rand = rand;
                 Ok(())
             }
-            Word::Input(input) => self.step(alloc, input),
+            Word::Session { supi, psi } => {
+                let session = self.session(alloc, &supi, psi)?;
+                self.tell(session.as_str())
+            }
+            Word::Input(input) => {
+                let answer = self.step(alloc, input)?;
+                self.tell(answer.as_str())
+            }
         }
     }
 
-    // What comes of an input, behind the other answers.
-    fn step(&mut self, alloc: Global, input: Input) -> Result<(), Refusal> {
-        let came = self.came(alloc, input)?;
-        let views = self.views(alloc)?;
+    // An answer behind the others.
+    fn tell(&mut self, answer: &str) -> Result<(), Refusal> {
         if !self.told.is_empty() {
             push(&mut self.told, " ")?;
         }
-        push(&mut self.told, came.as_str())?;
-        push(&mut self.told, views.as_str())
+        push(&mut self.told, answer)
+    }
+
+    // What comes of an input, and what can be seen then.
+    fn step(&mut self, alloc: Global, input: Input) -> Result<String, Refusal> {
+        let mut answer = self.came(alloc, input)?;
+        let views = self.views(alloc)?;
+        push(&mut answer, views.as_str())?;
+        Ok(answer)
+    }
+
+    // A session of a subscriber.
+    fn session(&self, alloc: Global, supi: &Supi, psi: Psi) -> Result<String, Refusal> {
+        match self.network.session(supi, psi) {
+            Some(seen) => network_session_text(alloc, &seen),
+            None => none(alloc),
+        }
     }
 
     // What comes of an input, with a comma behind each.

@@ -1,8 +1,9 @@
 //! The words that are given to a network; network_calls lists them.
 
-use nas_base::Moment;
+use nas_base::{Moment, Psi, Supi};
 use nas_network::NetCommand;
-use probe_words::{Refusal, exactly, moment, octets, subscriber};
+use probe_words::{Refusal, exactly, moment, octets, session, subscriber};
+use session_words::{ambr_or_none, ops, parts_of};
 use std::alloc::Global;
 
 /// What a word says.
@@ -10,6 +11,8 @@ use std::alloc::Global;
 pub enum Word {
     /// The RAND of challenges from here on.
     Random([u8; 16]),
+    /// A session of a subscriber is looked at.
+    Session { supi: Supi, psi: Psi },
     Input(Input),
 }
 
@@ -37,6 +40,7 @@ pub enum Input {
 pub fn read_word(alloc: Global, word: &str) -> Result<Word, Refusal> {
     match word.split_once(":") {
         Some(("random", value)) => Ok(Word::Random(exactly(value)?)),
+        Some(("session", value)) => looked_at(value),
         Some((name, value)) => Ok(Word::Input(input_of(alloc, name, value)?)),
         None => bare(word),
     }
@@ -56,16 +60,45 @@ fn input_of(alloc: Global, name: &str, value: &str) -> Result<Input, Refusal> {
         "fresh" => uplink(alloc, true, value),
         "tick" => Ok(Input::Tick(moment(value)?)),
         "drop" => Ok(Input::Drop { link: link(value)? }),
-        _ => Ok(Input::Command(command(name, value)?)),
+        _ => Ok(Input::Command(command(alloc, name, value)?)),
     }
 }
 
-fn command(name: &str, value: &str) -> Result<NetCommand, Refusal> {
+// A session of a subscriber.
+fn looked_at(words: &str) -> Result<Word, Refusal> {
+    let Some((supi, psi)) = words.split_once(":") else {
+        return Err(Refusal::Unreadable);
+    };
+    Ok(Word::Session {
+        supi: subscriber(supi)?,
+        psi: session(psi)?,
+    })
+}
+
+fn command(alloc: Global, name: &str, value: &str) -> Result<NetCommand, Refusal> {
     match name {
         "authenticate" => Ok(NetCommand::Authenticate(subscriber(value)?)),
         "deregister" => Ok(NetCommand::Deregister(subscriber(value)?)),
         "update" => Ok(NetCommand::Update {
             supi: subscriber(value)?,
+        }),
+        _ => session_order(alloc, name, value),
+    }
+}
+
+// A command on a session.
+fn session_order(alloc: Global, name: &str, value: &str) -> Result<NetCommand, Refusal> {
+    let parts = parts_of(alloc, value, ':')?;
+    match (name, parts.as_slice()) {
+        ("modify", [supi, psi, operations, ambr]) => Ok(NetCommand::Modify {
+            supi: subscriber(supi)?,
+            psi: session(psi)?,
+            ops: ops(alloc, operations)?,
+            ambr: ambr_or_none(alloc, ambr)?,
+        }),
+        ("release", [supi, psi]) => Ok(NetCommand::Release {
+            supi: subscriber(supi)?,
+            psi: session(psi)?,
         }),
         _ => Err(Refusal::Unreadable),
     }

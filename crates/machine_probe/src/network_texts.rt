@@ -9,6 +9,7 @@ use nas_elements::Guti;
 use nas_network::{NetDelivery, NetRefusal};
 use nas_security::Send;
 use probe_words::{Refusal, literal, none, word};
+use session_words::{fault_text, no_such_session_text};
 use std::alloc::Global;
 
 /// What came of a step, with a comma behind each.
@@ -32,6 +33,13 @@ pub fn refusal_text(alloc: Global, refusal: NetRefusal) -> Result<String, Refusa
         NetRefusal::Uncompleted { tmsi } => tmsi_text(alloc, "uncompleted", tmsi),
         NetRefusal::Updated { tmsi } => tmsi_text(alloc, "updated", tmsi),
         NetRefusal::TmsiSpent { last } => tmsi_text(alloc, "tmsi_spent", last),
+        NetRefusal::NoSuchSession { psi } => no_such_session_text(alloc, psi),
+        NetRefusal::SessionBusy { state } => {
+            word(format!(in alloc; "refused:session_busy:{state:?},"))
+        }
+        NetRefusal::Settling { sent } => word(format!(in alloc; "refused:settling:{sent},")),
+        NetRefusal::Qos(fault) => fault_text(alloc, fault),
+        NetRefusal::NoChange => literal(alloc, "refused:no_change,"),
         NetRefusal::Memory => Err(Refusal::Memory),
     }
 }

@@ -4,9 +4,11 @@ use Rattle.nas_base.specs.Branches.{per, when◌then◌else◌}
 use Rattle.nas_timers.specs.Timers.{Running, deadline_of, due_of, stopped}
 use Rattle.nas_timers.specs.declared.timer_id.TheConstants.{NAMES}
 use Rattle.nas_timers.specs.declared.timer_id.TimerId.{TimerId}
+use Rattle.nas_timers.specs.declared.timer_id.TimerId.TheVariants.{T3510, T3516, T3517, T3521, T3522, T3550, T3555, T3560, T3580, T3581, T3582, T3591, T3592}
 use Rattle.ue_mm.specs.declared.inputs.UeInput.TheVariants.{Expired}
+use Rattle.ue_sm.specs.declared.inputs.SmInput.TheVariants as sessions
 use Rattle.nas_handset.specs.State.{HandsetState}
-use Rattle.nas_handset.specs.Turns.{Turn, begun, turned}
+use Rattle.nas_handset.specs.Turns.{Turn, begun, sessions_turned, turned, untimed}
 
 -- those that are due when a tick begins, by deadline and then by name: the first of all, then the first of the others; there are
 -- at most as many as names
@@ -17,16 +19,29 @@ due_within (suc n) now ts = per (due_of now ts) [] (λ (id : TimerId). id ∷ du
 abbrev pub due_list : ℕ → List Running → List TimerId
 due_list now ts = due_within NAMES now ts
 
+-- whose timer it is that expires: T3580, T3581 and T3582 are the sessions' (TS 24.501 table 10.3.1), every other is 5GMM's
+abbrev pub expired : TimerId → Turn → Turn
+expired (T3580 psi) t = sessions_turned (sessions.Expired (T3580 psi)) t
+expired (T3581 psi) t = sessions_turned (sessions.Expired (T3581 psi)) t
+expired (T3582 psi) t = sessions_turned (sessions.Expired (T3582 psi)) t
+expired T3510 t = turned (Expired T3510) t
+expired T3516 t = turned (Expired T3516) t
+expired T3517 t = turned (Expired T3517) t
+expired T3521 t = turned (Expired T3521) t
+expired T3522 t = turned (Expired T3522) t
+expired T3550 t = turned (Expired T3550) t
+expired T3555 t = turned (Expired T3555) t
+expired T3560 t = turned (Expired T3560) t
+expired (T3591 psi) t = turned (Expired (T3591 psi)) t
+expired (T3592 psi) t = turned (Expired (T3592 psi)) t
+
 -- One of them: where its deadline is still there and has come, it is stopped, and the step of its expiry is taken. An expiry
 -- before it may have stopped it, or started it anew.
 abbrev pub is_due : TimerId → HandsetState → Bool
 is_due id h = per (deadline_of id h.timers) false (λ (at : ℕ). nat_le at h.moment)
 
-abbrev pub without : TimerId → HandsetState → HandsetState
-without id h = record h { timers = stopped id h.timers }
-
 unfoldable pub fired : TimerId → Turn → Turn
-fired id t = when is_due id t.handset then turned (Expired id) (record t { handset = without id t.handset }) else t
+fired id t = when is_due id t.handset then expired id (untimed id t) else t
 
 abbrev pub all_fired : List TimerId → Turn → Turn
 all_fired [] t = t

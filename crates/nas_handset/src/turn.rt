@@ -1,131 +1,69 @@
-//! A handset while it takes its steps.
-ghost use Rattle.std.specs.Prelude.{◌≡◌, OnOk};
-ghost use Rattle.nas_handset.specs.Turns.{all_taken, begun, sent, taken, turned};
+//! What a turn changed of a handset.
+ghost use Rattle.std.specs.Prelude.{◌≡◌, option_map, unwrap_or};
+ghost use Rattle.nas_handset.specs.Owners.{HaveOwners};
+ghost use Rattle.nas_handset.specs.TakingOver.{taken_over};
+ghost use Rattle.ue_mm.specs.State.{state_of};
 
 use crate::Handset;
-use nas_base::{Memory, Moment, Octets};
-use nas_elements::Status;
-use nas_security::{Context, Pass, Send, Sends};
+use nas_base::Moment;
 use nas_timers::Timers;
-use std::alloc::Global;
 use std::marker::Model;
-use ue_mm::{StepRefusal, UeInput, UeMm, UeOut, UeOuts, follow};
+use ue_mm::UeMm;
+use ue_sm::UeSm;
 
-/// A handset while it takes its steps, with what came of them so far: the messages that were sent, the check that was passed, and
-/// the context that was taken into use. Within a step the timers don't fit the state; so these are the parts of a handset.
+/// What a turn changed of a handset, which is not taken over yet: the mobility management and the sessions, each if it took a step; the
+/// timers; and the moment.
 #[derive(Drop)]
-pub struct Turn {
-    pub mm: UeMm,
-    pub timers: Timers,
-    pub moment: Moment,
-    pub sends: Sends,
-    pub passed: Option<Pass>,
-    pub took: Option<Context>,
+pub struct HandsetTurn {
+    pub(crate) mm: Option<UeMm>,
+    pub(crate) sm: Option<UeSm>,
+    pub(crate) timers: Timers,
+    pub(crate) moment: Moment,
 }
 
-impl Model for Turn {
-    ghost use Rattle.nas_handset.specs.Turns.{Turn as Parts};
+impl Model for HandsetTurn {
+    ghost use Rattle.std.specs.Prelude.{option_map};
+    ghost use Rattle.nas_handset.specs.TakingOver.{TurnChanges};
     ghost use Rattle.ue_mm.specs.State.{state_of};
 
-    ghost Value = { Parts };
+    ghost Value = { TurnChanges };
 
-    ghost view = { λ t. record { handset = record { mm = state_of t.mm; timers = t.timers; moment = t.moment }; sends = t.sends; passed = t.passed; took = t.took } };
+    ghost view = { λ t. record { mm = option_map state_of t.mm; sm = t.sm; timers = t.timers; moment = t.moment } };
 }
 
-// A handset sends on link 1.
-const LINK: u16 = 1;
-
-impl Turn {
-    /// A turn at its start.
-    pub fn begin(alloc: Global, handset: Handset) -> Turn
-        ensures { result ≡ begun handset }
-    {
-        Turn {
-            mm: handset.mm,
-            timers: handset.timers,
-            moment: handset.moment,
-            sends: Sends::new(alloc),
-            passed: None,
-            took: None,
-        }
+// The mobility management becomes what it is by now, if it took a step.
+fn take_mm(kept: &mut UeMm, changed: Option<UeMm>)
+    ensures { state_of kept.new ≡ unwrap_or (option_map state_of changed) (state_of kept.old) }
+{
+    if let Some(changed) = changed {
+        *kept = changed;
     }
+}
 
-    /// The step of an input that no refusal meets.
-    #[tactic(auto, unfolding(crate::specs::Turns::turned))]
-    pub fn step(&mut self, alloc: Global, input: UeInput) -> Result<(), Memory>
-        ensures { OnOk result (self.new ≡ turned input self.old) }
-    {
-        match follow(alloc, &self.mm, self.moment, &Status::empty(), input) {
-            Ok((mm, outs)) => {
-                self.mm = mm;
-                self.take_all(alloc, outs)
-            }
-            Err(StepRefusal::Memory) => Err(Memory),
-            Err(StepRefusal::WrongState { state: _ }) => Ok(()),
-            Err(StepRefusal::Spent { next: _ }) => Ok(()),
-        }
+// The sessions become what they are by now, if they took a step.
+fn take_sm(kept: &mut UeSm, changed: Option<UeSm>)
+    ensures { kept.new ≡ unwrap_or changed kept.old }
+{
+    if let Some(changed) = changed {
+        *kept = changed;
     }
+}
 
-    /// What goes out of a step, one after the other.
-    pub fn take_all(&mut self, alloc: Global, outs: UeOuts) -> Result<(), Memory>
-        ensures { OnOk result (self.new ≡ all_taken outs self.old) }
+impl HandsetTurn {
+    /// The handset that the turn was prepared on becomes what the turn came to. It takes no memory.
+    pub fn take_over(self, handset: &mut Handset)
+        requires { HaveOwners (taken_over self handset.old) }
+        ensures { handset.new ≡ taken_over self handset.old }
     {
-        for out in outs.items {
-            self.take(alloc, out)?;
-        }
-        Ok(())
-    }
-
-    // One thing that goes out of a step.
-    fn take(&mut self, alloc: Global, out: UeOut) -> Result<(), Memory>
-        ensures { OnOk result (self.new ≡ taken out self.old) }
-    {
-        match out {
-            UeOut::Send {
-                fresh,
-                octets,
-                pass,
-            } => self.send(alloc, fresh, octets, pass),
-            UeOut::Passed(pass) => {
-                self.passed = Some(pass);
-                Ok(())
-            }
-            UeOut::Took(context) => {
-                self.took = Some(context);
-                Ok(())
-            }
-            UeOut::Start { id, at } => {
-                self.timers.start(id, at);
-                Ok(())
-            }
-            UeOut::Stop(id) => {
-                self.timers.stop(id);
-                Ok(())
-            }
-            UeOut::ToSession(_)
-            | UeOut::NotForwarded(_)
-            | UeOut::Abandon
-            | UeOut::Clear
-            | UeOut::Keep(_) => Ok(()),
-        }
-    }
-
-    // A message is sent.
-    fn send(
-        &mut self,
-        alloc: Global,
-        fresh: bool,
-        octets: Octets,
-        pass: Option<Pass>,
-    ) -> Result<(), Memory>
-        ensures { OnOk result (self.new ≡ sent fresh octets pass self.old) }
-    {
-        let send = Send {
-            link: LINK,
-            fresh,
-            octets,
-            pass,
-        };
-        self.sends.push(alloc, send)
+        let HandsetTurn {
+            mm,
+            sm,
+            timers,
+            moment,
+        } = self;
+        take_mm(&mut handset.mm, mm);
+        take_sm(&mut handset.sm, sm);
+        handset.timers = timers;
+        handset.moment = moment;
     }
 }

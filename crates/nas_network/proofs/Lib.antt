@@ -1,11 +1,19 @@
+mod AmfOwners
 mod Beginnings
 mod Changed
+mod CommandRuns
+mod Deadlines
 mod Due
+mod Expiries
 mod Few
 mod FirstOwners
 pub mod Growing
 mod Lengths
 mod Owners
 mod Running
+mod Served
+mod SmfOwners
 mod Supis
 mod TakingOver
+mod TickOwners
+mod TurnOwners

@@ -1,14 +1,16 @@
 -- A turn, and what the network becomes by it.
-use Rattle.std.proofs.Common.{◌≡◌, ◌∙◌, ap, refl, sym, subst, ℕ, Bool, true, false, List, [], ◌∷◌, ◌++◌, Result, Ok, Err}
-use Rattle.amf_core.specs.Step.{Stepped, worked}
+use Rattle.std.proofs.Common.{◌≡◌, refl, true, List, [], ◌∷◌, ◌++◌, ℕ, Err}
+use Rattle.amf_core.specs.Step.{worked}
 use Rattle.amf_core.specs.declared.inputs.AmfInput.{AmfInput}
 use Rattle.amf_core.specs.declared.inputs.AmfInput.TheVariants.{Uplink, Expired, Authenticate, Deregister, Update, Fence, Sessions, Down, Dropped}
 use Rattle.amf_core.specs.declared.inputs.AmfRefusal.{AmfRefusal}
-use Rattle.amf_core.specs.declared.outs.AmfOut.{AmfOut}
-use Rattle.amf_core.specs.declared.outs.AmfOut.TheVariants as outs
-use Rattle.nas_network.specs.TakingOver.{timers_after, timers_by, timers_taken}
-use Rattle.nas_network.specs.State.{SubscriberTimers, started_for, stopped_for}
-use Rattle.nas_network.specs.Turns.{Turn, all_taken, is_unrefused, stepped, taken}
+use Rattle.smf_core.specs.Step as smf
+use Rattle.smf_core.specs.declared.inputs.SmfInput.{SmfInput}
+use Rattle.smf_core.specs.declared.inputs.SmfInput.TheVariants as smf_inputs
+use Rattle.smf_core.specs.declared.inputs.SmfRefusal.{SmfRefusal}
+use Rattle.nas_network.specs.TakingOver.{timers_after, timers_by}
+use Rattle.nas_network.specs.State.{SubscriberTimers}
+use Rattle.nas_network.specs.Turns.{Turn, is_unrefused, is_unrefused_by_smf, smf_stepped, stepped}
 use Rattle.nas_network.specs.declared.timers.TimerChange.{TimerChange}
 
 -- one change more is the last
@@ -16,15 +18,6 @@ pub changed_last : (changes : List TimerChange) (change : TimerChange) (ss : Lis
     → timers_after (changes ++ change ∷ []) ss ≡ timers_by change (timers_after changes ss)
 changed_last [] change ss = refl
 changed_last (first ∷ changes) change ss = changed_last changes change (timers_by first ss)
-
--- what goes out of a step does to the timers
-pub taken_timers : (list : List AmfOut) (t : Turn) → (all_taken list t).network.timers ≡ timers_taken list t.network.timers
-taken_timers [] t = refl
-taken_timers (outs.Send send ∷ list) t = taken_timers list (taken (outs.Send send) t)
-taken_timers (outs.Passed pass ∷ list) t = taken_timers list (taken (outs.Passed pass) t)
-taken_timers (outs.Smf call ∷ list) t = taken_timers list (taken (outs.Smf call) t)
-taken_timers (outs.Start supi id at ∷ list) t = taken_timers list (taken (outs.Start supi id at) t)
-taken_timers (outs.Stop supi id ∷ list) t = taken_timers list (taken (outs.Stop supi id) t)
 
 -- no refusal meets an input that is no command
 pub never_refused : (rand : List ℕ) (input : AmfInput) (t : Turn) (e : AmfRefusal) → is_unrefused input ≡ true
@@ -39,3 +32,14 @@ never_refused rand (Fence supi) t e true_of is = cc
 never_refused rand (Sessions supi status) t e true_of is = cc
 never_refused rand (Down supi psi frame) t e true_of is = cc
 never_refused rand (Dropped link) t e true_of is = cc
+
+pub never_refused_by_smf : (supi : List ℕ) (input : SmfInput) (t : Turn) (e : SmfRefusal) → is_unrefused_by_smf input ≡ true
+    → smf_stepped supi input t ≡ Err e → ⊥
+unfolding smf.worked
+never_refused_by_smf supi (smf_inputs.Modify psi ops ambr) t e true_of is = cc
+never_refused_by_smf supi (smf_inputs.Release psi) t e true_of is = cc
+never_refused_by_smf supi (smf_inputs.Frame psi challenge dnn slice octets) t e true_of is = cc
+never_refused_by_smf supi smf_inputs.Switched t e true_of is = cc
+never_refused_by_smf supi smf_inputs.ReleaseAll t e true_of is = cc
+never_refused_by_smf supi (smf_inputs.KeepOnly status) t e true_of is = cc
+never_refused_by_smf supi (smf_inputs.Expired id) t e true_of is = cc

@@ -1,8 +1,7 @@
 -- What a network is made with.
-use Rattle.std.specs.Prelude.{◌≡◌, ◌≤◌, ◌+◌, ◌^◌, ℕ, Bool, true, false, not, List, [], ◌∷◌, ◌++◌, length, map, nat_le, ◌==◌, ◌&&◌, ◌||◌, Option, Some, None, if◌then◌else◌}
+use Rattle.std.specs.Prelude.{◌≡◌, ◌≤◌, ℕ, Bool, true, false, not, List, [], ◌∷◌, ◌++◌, length, map, nat_le, ◌==◌, ◌&&◌, ◌||◌, Option}
 use Rattle.std.specs.List.{list_all}
 use Rattle.std.specs.Str.{bytes_eq}
-use Rattle.byteorder.specs.Endian.{big_number}
 use Rattle.nas_base.specs.Plmn.{PlmnIdentity}
 use Rattle.nas_base.specs.Supi.{is_of_plmn}
 use Rattle.nas_elements.specs.Timer3.{GprsTimer}
@@ -13,6 +12,10 @@ use Rattle.milenage.specs.Checking.{is_for_5g}
 use Rattle.milenage.specs.Home.{HomeRecord, is_sqn}
 use Rattle.amf_core.specs.Config.{AmfBeginnings}
 use Rattle.amf_core.specs.declared.config.AmfSubscriber.{AmfSubscriber}
+use Rattle.nas_pools.specs.Config.{Pool6Parts, is_pool_size, pool_fits}
+use Rattle.nas_pools.specs.Kinds.{DnnKindParts}
+use Rattle.smf_core.specs.Config.{SmfBeginnings, kinds_fit}
+use Rattle.smf_core.specs.declared.config.SmfSubscriber.{SmfSubscriber}
 
 -- a subscriber: SUPI, K, OPc, the AMF field of the vectors, SQN_HE, and what is subscribed
 pub record SubscriberValues : Type 0 where
@@ -50,14 +53,6 @@ has_plmn plmn s = is_of_plmn plmn s.supi
 abbrev pub are_subscribers : PlmnIdentity → List SubscriberValues → Bool
 are_subscribers plmn ss = nat_le 1 (length ss) && nat_le (length ss) 64 && list_all (has_plmn plmn) ss && are_new [] ss
 
--- the addresses from this one on, so many, end at or below 255.255.255.255
-abbrev pub pool_fits : List ℕ → ℕ → Bool
-pool_fits pool size = nat_le (big_number 4 pool + size) (2 ^ 32)
-
--- a pool has 1 to 65,536 addresses
-abbrev pub is_pool_size : ℕ → Bool
-is_pool_size size = nat_le 1 size && nat_le size 65536
-
 pub record NetValues : Type 0 where
   pub plmn : PlmnIdentity
   pub region : ℕ
@@ -68,20 +63,23 @@ pub record NetValues : Type 0 where
   pub t3512 : GprsTimer
   pub pool : List ℕ
   pub pool_size : ℕ
+  pub pool6 : Option Pool6Parts
+  pub kinds : List DnnKindParts
   pub ambr : Ambr
   pub durations : DurationParts
   pub subscribers : List SubscriberValues
 
--- the ciphering that is preferred is none (0) or 128-NEA2, 5G-TMSIs start at 1 or above, the pool is one, and the subscribers are the
--- network's
+-- the ciphering that is preferred is none (0) or 128-NEA2, 5G-TMSIs start at 1 or above, the pool is one, data networks have addresses
+-- that there are pools of, and the subscribers are the network's
 pub record IsNetwork (n : NetValues) : Type 0 where
   pub ciphering : (n.nea == 0 || n.nea == 2) ≡ true
   pub numbers : 1 ≤ n.tmsi
   pub addresses : is_pool_size n.pool_size ≡ true
   pub pool_end : pool_fits n.pool n.pool_size ≡ true
+  pub networks : kinds_fit n.pool6 n.kinds ≡ true
   pub known : are_subscribers n.plmn n.subscribers ≡ true
 
--- what its home network and its AMF begin with
+-- what its home network, its AMF and its SMF begin with
 abbrev pub home_of : SubscriberValues → HomeRecord
 home_of s = record { supi = s.supi; k = s.k; opc = s.opc; field = s.field; sqn = s.sqn }
 
@@ -99,4 +97,19 @@ amf_values n = record {
   values = record { plmn = n.plmn; region = n.region; set_pointer = n.set_pointer; nea = n.nea; tac = n.tac; t3512 = n.t3512; durations = n.durations };
   tmsi = n.tmsi;
   subscribers = at_amf n.subscribers;
+}
+
+abbrev pub smf_of : SubscriberValues → SmfSubscriber
+smf_of s = record { supi = s.supi; dnns = s.dnns; slices = s.slices }
+
+abbrev pub at_smf : List SubscriberValues → List SmfSubscriber
+at_smf ss = map smf_of ss
+
+abbrev pub smf_values : NetValues → SmfBeginnings
+smf_values n = record {
+  values = record { ambr = n.ambr; durations = n.durations; kinds = n.kinds };
+  pool = n.pool;
+  pool_size = n.pool_size;
+  pool6 = n.pool6;
+  subscribers = at_smf n.subscribers;
 }

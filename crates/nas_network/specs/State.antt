@@ -1,22 +1,25 @@
--- A network: its AMF, its home network, the timers that run, and the moment that it was told last.
-use Rattle.std.specs.Prelude.{ℕ, List, [], ◌∷◌, map, Option, if◌then◌else◌}
+-- A network: its AMF, its home network, its SMF, the timers that run, and the moment that it was told last.
+use Rattle.std.specs.Prelude.{ℕ, Bool, true, false, List, [], ◌∷◌, map, Option, if◌then◌else◌}
 use Rattle.std.specs.Str.{bytes_eq}
 use Rattle.nas_timers.specs.Timers.{Running, deadline_of, started, stopped}
 use Rattle.nas_timers.specs.declared.timer_id.TimerId.{TimerId}
 use Rattle.milenage.specs.Home.{HomeRecord}
 use Rattle.amf_core.specs.State.{AmfState}
 use Rattle.amf_core.specs.State as amf
-use Rattle.nas_network.specs.Config.{NetValues, SubscriberValues, amf_values, at_home}
+use Rattle.smf_core.specs.State.{SmfState}
+use Rattle.smf_core.specs.State as smf
+use Rattle.nas_network.specs.Config.{NetValues, SubscriberValues, amf_values, at_home, smf_values}
 
 -- the timers of a subscriber
 pub record SubscriberTimers : Type 0 where
   pub supi : List ℕ
   pub timers : List Running
 
--- the timers stand in the order of the configuration
+-- the timers, those of the AMF and those of the SMF, stand in the order of the configuration
 pub record NetworkState : Type 0 where
   pub amf : AmfState
   pub home : List HomeRecord
+  pub smf : SmfState
   pub timers : List SubscriberTimers
   pub moment : ℕ
 
@@ -28,6 +31,7 @@ abbrev pub first : NetValues → NetworkState
 first config = record {
   amf = amf.first (amf_values config);
   home = at_home config.subscribers;
+  smf = smf.first (smf_values config);
   timers = map no_timers config.subscribers;
   moment = 0;
 }
@@ -36,6 +40,11 @@ first config = record {
 abbrev pub timers_of : List ℕ → List SubscriberTimers → List Running
 timers_of supi [] = []
 timers_of supi (s ∷ ss) = if bytes_eq s.supi supi then s.timers else timers_of supi ss
+
+-- whether timers are kept for a SUPI
+abbrev pub is_timed : List ℕ → List SubscriberTimers → Bool
+is_timed supi [] = false
+is_timed supi (s ∷ ss) = if bytes_eq s.supi supi then true else is_timed supi ss
 
 abbrev pub deadline_for : List ℕ → TimerId → List SubscriberTimers → Option ℕ
 deadline_for supi id ss = deadline_of id (timers_of supi ss)

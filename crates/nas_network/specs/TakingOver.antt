@@ -1,15 +1,21 @@
 -- A turn while it goes on, beside the network that it began on, and what that network becomes when it is taken over.
-use Rattle.std.specs.Prelude.{◌≡◌, ℕ, List, [], ◌∷◌, Result, Ok, Err}
+use Rattle.std.specs.Prelude.{◌≡◌, ℕ, ◌&&◌, List, [], ◌∷◌, Option, Some, None, Result, Ok, Err, if◌then◌else◌}
+use Rattle.std.specs.Str.{bytes_eq}
 use Rattle.amf_core.specs.Changes.{ChangeLists, changed, home_now}
 use Rattle.nas_base.specs.Outcomes.{RefusesAs}
+use Rattle.nas_timers.specs.Names.{same_name}
+use Rattle.nas_timers.specs.declared.timer_id.TimerId.{TimerId}
 use Rattle.amf_core.specs.Outcome as amf
 use Rattle.amf_core.specs.Step.{Stepped}
 use Rattle.amf_core.specs.declared.inputs.AmfRefusal.{AmfRefusal}
-use Rattle.amf_core.specs.declared.outs.AmfOut.{AmfOut}
-use Rattle.amf_core.specs.declared.outs.AmfOut.TheVariants as outs
+use Rattle.amf_core.specs.declared.outs.SmfCall.{SmfCall}
+use Rattle.smf_core.specs.Drafts as smf
+use Rattle.smf_core.specs.Outcome as smf_outcome
+use Rattle.smf_core.specs.Step as smf_step
+use Rattle.smf_core.specs.declared.inputs.SmfRefusal.{SmfRefusal}
 use Rattle.nas_network.specs.Network.{answered, wants_memory}
 use Rattle.nas_network.specs.State.{NetworkState, SubscriberTimers, started_for, stopped_for}
-use Rattle.nas_network.specs.Turns.{Turn, onto, reached}
+use Rattle.nas_network.specs.Turns.{Turn, all_taken, asks_in, onto, reached, smf_onto}
 use Rattle.nas_network.specs.declared.command.NetDelivery.{NetDelivery}
 use Rattle.nas_network.specs.declared.command.NetRefusal.{NetRefusal}
 use Rattle.nas_network.specs.declared.timers.TimerChange.{TimerChange}
@@ -24,21 +30,18 @@ abbrev pub timers_after : List TimerChange → List SubscriberTimers → List Su
 timers_after [] ss = ss
 timers_after (c ∷ cs) ss = timers_after cs (timers_by c ss)
 
--- what goes out of a step starts and stops them
-abbrev pub timers_taken : List AmfOut → List SubscriberTimers → List SubscriberTimers
-timers_taken [] ss = ss
-timers_taken (outs.Start supi id at ∷ list) ss = timers_taken list (started_for supi id at ss)
-timers_taken (outs.Stop supi id ∷ list) ss = timers_taken list (stopped_for supi id ss)
-timers_taken (outs.Send send ∷ list) ss = timers_taken list ss
-timers_taken (outs.Passed pass ∷ list) ss = timers_taken list ss
-timers_taken (outs.Smf call ∷ list) ss = timers_taken list ss
-
 abbrev pub changed_by : TimerChange → Turn → Turn
 changed_by c t = record t { network = record t.network { timers = timers_by c t.network.timers } }
 
--- what a turn changed of a network: the AMF's records and the home network, the timers, and the moment
+-- what a change does to the deadline of one of the timers
+abbrev pub deadline_by : TimerChange → List ℕ → TimerId → Option ℕ → Option ℕ
+deadline_by (Start supi id at) x name found = if bytes_eq supi x && same_name id name then Some at else found
+deadline_by (Stop supi id) x name found = if bytes_eq supi x && same_name id name then None else found
+
+-- what a turn changed of a network: the AMF's records and the home network, the SMF's sessions and addresses, the timers, and the moment
 pub record TurnChanges : Type 0 where
   pub changes : ChangeLists
+  pub sessions : smf.ChangeLists
   pub timers : List TimerChange
   pub moment : ℕ
 
@@ -46,6 +49,7 @@ abbrev pub taken_over : TurnChanges → NetworkState → NetworkState
 taken_over l n = record {
   amf = changed l.changes n.amf;
   home = home_now l.changes.home n.home;
+  smf = smf.changed l.sessions n.smf;
   timers = timers_after l.timers n.timers;
   moment = l.moment;
 }
@@ -55,19 +59,27 @@ pub record TurningState : Type 0 where
   pub turn : Turn
   pub before : NetworkState
 
--- what the step of an input left, and what goes out of it, which isn't taken yet
-abbrev pub left : Turn → List AmfOut → Stepped
-left t outs = record { amf = t.network.amf; home = t.network.home; outs = outs }
+-- a turn that goes on, on the same network
+abbrev pub on : Turn → TurningState → TurningState
+on t old = record old { turn = t }
 
-abbrev pub Reaches : TurningState → Result (TurningState × List AmfOut) AmfRefusal → Result Stepped AmfRefusal → Type 0
-Reaches old (Ok (new, outs)) step = (step ≡ Ok (left new.turn outs)) × (new.turn ≡ reached (left new.turn outs) old.turn) × (new.before ≡ old.before)
-Reaches old (Err refusal) step = RefusesAs amf.wants_memory refusal step
-
--- the same with what goes out
-abbrev pub StepsOn : TurningState → Result TurningState AmfRefusal → Result Stepped AmfRefusal → Type 0
-StepsOn old (Ok new) (Ok s) = (new.turn ≡ onto (Ok s) old.turn) × (new.before ≡ old.before)
+-- what the step of the AMF came to, with what goes out of it but for what the SMF is asked
+abbrev pub StepsOn : TurningState → Result (TurningState × List SmfCall) AmfRefusal → Result Stepped AmfRefusal → Type 0
+StepsOn old (Ok (new, asks)) (Ok s) = (new ≡ on (all_taken s.outs (reached s old.turn)) old) × (asks ≡ asks_in s.outs)
 StepsOn old (Ok new) (Err refusal) = ⊥
 StepsOn old (Err refusal) step = RefusesAs amf.wants_memory refusal step
+
+-- the same with what the SMF is asked
+abbrev pub TurnsOn : TurningState → List ℕ → Result TurningState AmfRefusal → Result Stepped AmfRefusal → Type 0
+TurnsOn old rand (Ok new) (Ok s) = new ≡ on (onto rand (Ok s) old.turn) old
+TurnsOn old rand (Ok new) (Err refusal) = ⊥
+TurnsOn old rand (Err refusal) step = RefusesAs amf.wants_memory refusal step
+
+-- what the step of the SMF came to, with all that comes of it
+abbrev pub SmfStepsOn : TurningState → List ℕ → List ℕ → Result TurningState SmfRefusal → Result smf_step.Stepped SmfRefusal → Type 0
+SmfStepsOn old rand supi (Ok new) (Ok s) = new ≡ on (smf_onto rand supi (Ok s) old.turn) old
+SmfStepsOn old rand supi (Ok new) (Err refusal) = ⊥
+SmfStepsOn old rand supi (Err refusal) step = RefusesAs smf_outcome.wants_memory refusal step
 
 -- what a command comes to, where the network takes it over
 abbrev pub FollowsCommand : NetworkState → Result (TurnChanges × NetDelivery) NetRefusal → Result Turn NetRefusal → Type 0

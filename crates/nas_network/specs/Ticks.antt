@@ -1,13 +1,15 @@
 -- The timers that are due at a moment.
-use Rattle.std.specs.Prelude.{ℕ, zero, suc, ◌*◌, Bool, false, nat_lt, nat_le, max, ◌==◌, ◌&&◌, ◌||◌, List, [], ◌∷◌, Option, Some, None, if◌then◌else◌}
+use Rattle.std.specs.Prelude.{ℕ, zero, suc, ◌*◌, Bool, true, false, nat_lt, nat_le, max, ◌==◌, ◌&&◌, ◌||◌, List, [], ◌∷◌, Option, Some, None, if◌then◌else◌}
 use Rattle.nas_base.specs.Branches.{per, when◌then◌else◌}
 use Rattle.nas_timers.specs.declared.timer_id.TheConstants.{NAMES}
 use Rattle.nas_timers.specs.Names.{is_before}
 use Rattle.nas_timers.specs.Timers.{deadline_of, due_of}
 use Rattle.nas_timers.specs.declared.timer_id.TimerId.{TimerId}
+use Rattle.nas_timers.specs.declared.timer_id.TimerId.TheVariants.{T3510, T3516, T3517, T3521, T3522, T3550, T3555, T3560, T3580, T3581, T3582, T3591, T3592}
 use Rattle.amf_core.specs.declared.inputs.AmfInput.TheVariants.{Expired}
+use Rattle.smf_core.specs.declared.inputs.SmfInput.TheVariants as smf_inputs
 use Rattle.nas_network.specs.State.{NetworkState, SubscriberTimers, deadline_for, stopped_for}
-use Rattle.nas_network.specs.Turns.{Turn, begun, turned}
+use Rattle.nas_network.specs.Turns.{Turn, begun, smf_turned, turned}
 
 -- a timer of a subscriber, and its deadline
 pub record DueTimer : Type 0 where
@@ -65,8 +67,28 @@ is_due d n = is_due_of d n.moment n.timers
 abbrev pub without : DueTimer → NetworkState → NetworkState
 without d n = record n { timers = stopped_for d.supi d.id n.timers }
 
+-- those of the SMF are T3591 and T3592 of a session; all others are the AMF's
+abbrev pub is_of_smf : TimerId → Bool
+is_of_smf (T3591 psi) = true
+is_of_smf (T3592 psi) = true
+is_of_smf T3510 = false
+is_of_smf T3516 = false
+is_of_smf T3517 = false
+is_of_smf T3521 = false
+is_of_smf T3522 = false
+is_of_smf T3550 = false
+is_of_smf T3555 = false
+is_of_smf T3560 = false
+is_of_smf (T3580 psi) = false
+is_of_smf (T3581 psi) = false
+is_of_smf (T3582 psi) = false
+
+unfoldable pub expiry : List ℕ → List ℕ → TimerId → Turn → Turn
+expiry rand supi id t =
+    when is_of_smf id then smf_turned rand supi (smf_inputs.Expired id) t else turned rand (Expired supi id) t
+
 abbrev pub expired : List ℕ → DueTimer → Turn → Turn
-expired rand d t = turned rand (Expired d.supi d.id) (record t { network = without d t.network })
+expired rand d t = expiry rand d.supi d.id (record t { network = without d t.network })
 
 unfoldable pub fired : List ℕ → DueTimer → Turn → Turn
 fired rand d t = when is_due d t.network then expired rand d t else t

@@ -1,10 +1,14 @@
 //! The commands to a network, and what it answers.
-ghost use Rattle.std.specs.Prelude.{◌≡◌};
-ghost use Rattle.nas_network.specs.Network.{amf_command, refusal_of};
+ghost use Rattle.std.specs.Prelude.{◌≡◌, true};
+ghost use Rattle.nas_network.specs.Network.{refusal_of, smf_refusal_of};
+ghost use Rattle.nas_network.specs.Owners.{names_identity};
 
-use amf_core::{AmfInput, AmfRefusal};
-use nas_base::{AmfWord, Supi};
+use amf_core::AmfRefusal;
+use nas_base::{AmfWord, Psi, SmfWord, Supi};
+use nas_elements::Ambr;
+use nas_qos::{QosFault, RuleOps};
 use nas_security::{Pass, Sends};
+use smf_core::SmfRefusal;
 
 /// A command to a network.
 #[derive(Drop)]
@@ -15,6 +19,15 @@ pub enum NetCommand {
     Deregister(Supi),
     /// To give it a new 5G-GUTI (clause 5.4.4).
     Update { supi: Supi },
+    /// To modify a session: operations on its QoS rules, and a session AMBR where it is to change (clause 6.3.2).
+    Modify {
+        supi: Supi,
+        psi: Psi,
+        ops: RuleOps,
+        ambr: Option<Ambr>,
+    },
+    /// To release a session (clause 6.3.3).
+    Release { supi: Supi, psi: Psi },
 }
 
 /// Why a command was refused.
@@ -22,7 +35,7 @@ pub enum NetCommand {
 pub enum NetRefusal {
     /// No subscriber has this SUPI.
     UnknownSupi,
-    /// The command doesn't begin in this state, or a procedure is open.
+    /// The command doesn't begin in this state, or a procedure is open; one on a session also where the subscriber isn't registered.
     WrongState { state: AmfWord },
     /// No sequence number is left behind this one.
     SqnSpent { sqn: u64 },
@@ -32,6 +45,16 @@ pub enum NetRefusal {
     Updated { tmsi: u32 },
     /// No 5G-TMSI is left behind this one.
     TmsiSpent { last: u32 },
+    /// There is no session of this identity.
+    NoSuchSession { psi: Psi },
+    /// The session is busy with a command.
+    SessionBusy { state: SmfWord },
+    /// The session's last command was given out `sent` times, and copies of it or of its answer may still be under way.
+    Settling { sent: u8 },
+    /// The operations don't go with the session's rules.
+    Qos(QosFault),
+    /// The session would stay as it is, or the command would be its last one once more.
+    NoChange,
     /// There was no memory left.
     Memory,
 }
@@ -46,15 +69,17 @@ pub struct NetDelivery {
 }
 
 impl NetCommand {
-    /// As an input of the AMF.
-    pub(crate) fn to_amf(&self) -> AmfInput
-        ensures { result ≡ amf_command self.now }
+    // Says that the identity that it names is one.
+    pub(crate) fn names_identity(&self)
+        ensures { names_identity self.now ≡ true }
     {
-        match self {
-            NetCommand::Authenticate(supi) => AmfInput::Authenticate(supi.copy()),
-            NetCommand::Deregister(supi) => AmfInput::Deregister(supi.copy()),
-            NetCommand::Update { supi } => AmfInput::Update(supi.copy()),
-        }
+        let _number = match self {
+            NetCommand::Authenticate(_) => 1,
+            NetCommand::Deregister(_) => 1,
+            NetCommand::Update { .. } => 1,
+            NetCommand::Modify { psi, .. } => psi.0,
+            NetCommand::Release { psi, .. } => psi.0,
+        };
     }
 }
 
@@ -71,6 +96,20 @@ impl NetRefusal {
             AmfRefusal::Updated { tmsi } => NetRefusal::Updated { tmsi },
             AmfRefusal::TmsiSpent { last } => NetRefusal::TmsiSpent { last },
             AmfRefusal::Memory => NetRefusal::Memory,
+        }
+    }
+
+    /// As the SMF says it.
+    pub(crate) fn from_smf(refusal: SmfRefusal) -> NetRefusal
+        ensures { result ≡ smf_refusal_of refusal }
+    {
+        match refusal {
+            SmfRefusal::NoSuchSession { psi } => NetRefusal::NoSuchSession { psi },
+            SmfRefusal::WrongState { state } => NetRefusal::SessionBusy { state },
+            SmfRefusal::Settling { sent } => NetRefusal::Settling { sent },
+            SmfRefusal::Qos(fault) => NetRefusal::Qos(fault),
+            SmfRefusal::NoChange => NetRefusal::NoChange,
+            SmfRefusal::Memory => NetRefusal::Memory,
         }
     }
 }

@@ -1,11 +1,11 @@
 //! What a network is made with.
 ghost use Rattle.std.specs.Prelude.{◌≡◌};
 ghost use Rattle.milenage.specs.Checking.{is_for_5g};
-ghost use Rattle.nas_network.specs.Config.{is_pool_size, is_subscriber, pool_fits};
+ghost use Rattle.nas_network.specs.Config.{is_subscriber};
 
-use byteorder::{BigEndian, ByteOrder};
 use nas_base::{Plmn, Supi};
 use nas_elements::{Ambr, Dnns, Nssai, Timer3};
+use nas_pools::{DnnKinds, Pool6};
 use nas_timers::Durations;
 use std::marker::Model;
 
@@ -72,8 +72,9 @@ pub fn is_subscriber(supi: &Supi, subscribers: &[Subscriber]) -> bool
 
 /// A network: its identity, its region, set and pointer as 5G-GUTIs have them, the 5G-TMSI that is assigned first, 1 at least, the
 /// ciphering that is preferred, 0 or 2, its tracking area, T3512 as handsets are told it, its pool of 1 to 65,536 IPv4 addresses, of which
-/// the last is 255.255.255.255 at most, the session AMBR, how long timers run, and 1 to 64 subscribers, whose SUPIs are distinct and begin
-/// with the digits of the network (TS 23.003 clauses 2.2 and 2.10.1, TS 24.501 clause 10).
+/// the last is 255.255.255.255 at most, its pool of interface identifiers of IPv6, if it has one, which addresses data networks have, IPv4
+/// alone where there is no such pool, the session AMBR, how long timers run, and 1 to 64 subscribers, whose SUPIs are distinct and begin
+/// with the digits of the network (TS 23.003 clauses 2.2 and 2.10.1, TS 23.501 clause 5.8.2.2, TS 24.501 clause 10).
 #[derive(Drop)]
 pub struct NetConfig {
     pub plmn: Plmn,
@@ -85,6 +86,8 @@ pub struct NetConfig {
     pub t3512: Timer3,
     pub pool: [u8; 4],
     pub pool_size: u32,
+    pub pool6: Option<Pool6>,
+    pub kinds: DnnKinds,
     pub ambr: Ambr,
     pub durations: Durations,
     pub subscribers: Subscribers,
@@ -95,24 +98,9 @@ impl Model for NetConfig {
 
     ghost Value = { NetValues };
 
-    ghost view = { λ n. record { plmn = n.plmn; region = n.region; set_pointer = n.set_pointer; tmsi = n.tmsi; nea = n.nea; tac = n.tac; t3512 = n.t3512; pool = n.pool; pool_size = n.pool_size; ambr = n.ambr; durations = n.durations; subscribers = n.subscribers } };
+    ghost view = { λ n. record { plmn = n.plmn; region = n.region; set_pointer = n.set_pointer; tmsi = n.tmsi; nea = n.nea; tac = n.tac; t3512 = n.t3512; pool = n.pool; pool_size = n.pool_size; pool6 = n.pool6; kinds = n.kinds; ambr = n.ambr; durations = n.durations; subscribers = n.subscribers } };
 
-    ghost invariant = { λ n. IsNetwork (record { plmn = n.plmn; region = n.region; set_pointer = n.set_pointer; tmsi = n.tmsi; nea = n.nea; tac = n.tac; t3512 = n.t3512; pool = n.pool; pool_size = n.pool_size; ambr = n.ambr; durations = n.durations; subscribers = n.subscribers }) };
-}
-
-/// Whether so many addresses from this one on end at or below 255.255.255.255.
-pub fn pool_fits(pool: &[u8; 4], size: u32) -> bool
-    ensures { result ≡ pool_fits pool.now size }
-{
-    let first = u64::from(BigEndian::read_u32(pool));
-    first + u64::from(size) <= 0x1_0000_0000
-}
-
-/// Whether a pool may have so many addresses: 1 to 65,536.
-pub fn is_pool_size(size: u32) -> bool
-    ensures { result ≡ is_pool_size size }
-{
-    1 <= size && size <= 65_536
+    ghost invariant = { λ n. IsNetwork (record { plmn = n.plmn; region = n.region; set_pointer = n.set_pointer; tmsi = n.tmsi; nea = n.nea; tac = n.tac; t3512 = n.t3512; pool = n.pool; pool_size = n.pool_size; pool6 = n.pool6; kinds = n.kinds; ambr = n.ambr; durations = n.durations; subscribers = n.subscribers }) };
 }
 
 /// Whether the first bit of an AMF field is 1, which says that a vector is one for 5G (TS 33.501 clause 6.1.3.2).

@@ -3,21 +3,23 @@ ghost use Rattle.std.specs.Prelude.{◌≡◌, max, take, true, IfOk, OnErr};
 ghost use Rattle.amf_core.specs.Naming.{is_kept_for_another};
 ghost use Rattle.amf_core.specs.State.{view_in};
 ghost use Rattle.nas_network.specs.TakingOver.{FollowsCommand, taken_over};
-ghost use Rattle.nas_network.specs.Network.{Commands, answered, commanded, delivered, dropped, most_taken};
+ghost use Rattle.nas_network.specs.Network.{Commands, amf_commanded, answered, commanded, delivered, dropped, most_taken, smf_commanded, smf_outcome, takes_commands};
 ghost use Rattle.nas_network.specs.Owners.{HaveOwners, IsNoExpiry, all_keep_few};
 ghost use Rattle.nas_network.specs.State.{first};
 ghost use Rattle.nas_network.specs.Ticks.{ticked};
-ghost use Rattle.nas_network.specs.Turns.{begun, is_unrefused, turned};
+ghost use Rattle.nas_network.specs.Turns.{begun, is_unrefused, smf_stepped, turned};
+ghost use Rattle.smf_core.specs.State.{is_subscriber, session_of};
 
-use crate::beginning::{amf_config, home_list};
+use crate::beginning::{amf_config, home_list, smf_config};
 use crate::ticks::{due_list, fire_all};
 use crate::timers::{SubscriberTimers, change_all, copies, none_run};
 use crate::turn::{NetTurn, Turning};
 use crate::{NetCommand, NetConfig, NetDelivery, NetRefusal};
 use amf_core::{Amf, AmfInput, NetView};
 use milenage::Home;
-use nas_base::{Memory, Moment, Octets, Supi};
+use nas_base::{AmfWord, Memory, Moment, Octets, Psi, Supi};
 use nas_elements::Guti;
+use smf_core::{NetSession, Smf, SmfInput};
 use std::alloc::Global;
 use std::marker::Model;
 
@@ -27,17 +29,20 @@ const MOST_TAKEN: usize = 4097;
 // No challenge starts where a link is lost.
 const NO_RAND: [u8; 16] = [0, 0, 0, 0, 0, 0, 0, 0, 0, 0, 0, 0, 0, 0, 0, 0];
 
-/// A network: its AMF, its home network, the timers that run for each subscriber, and the moment that it was told last. For each
+/// A network: its AMF, its home network, its SMF, the timers that run for each subscriber, and the moment that it was told last. For each
 /// subscriber the timer of a procedure runs exactly while that procedure is open: T3560 while a challenge is, T3550 while an acceptance
-/// is, T3555 while an update is, T3522 while a de-registration by the network is (TS 24.501 clause 10.2).
+/// is, T3555 while an update is, T3522 while a de-registration by the network is (TS 24.501 clause 10.2); and for each of its sessions the
+/// timer of a command, T3591 or T3592, runs exactly while that command is open (clause 10.3).
 ///
 /// Each event has two calls: `follow_..` prepares what comes of it on a network that stays as it is, and `take_over` takes that over
 /// without memory and without fail; `command`, `deliver`, `tick` and `drop_link` do both. None of them copies a network: an event costs
-/// the records that it changes, and walks over the subscribers and the links.
+/// the records and the sessions that it changes, walks over the subscribers and the links, and, where a session gets an address or gives
+/// one back, one copy of the pools.
 #[derive(Drop)]
 pub struct Network {
     pub(crate) amf: Amf,
     pub(crate) home: Home,
+    pub(crate) smf: Smf,
     pub(crate) timers: Vec<SubscriberTimers>,
     pub(crate) moment: Moment,
 }
@@ -48,9 +53,9 @@ impl Model for Network {
 
     ghost Value = { NetworkState };
 
-    ghost view = { λ n. record { amf = n.amf; home = n.home; timers = n.timers.items; moment = n.moment } };
+    ghost view = { λ n. record { amf = n.amf; home = n.home; smf = n.smf; timers = n.timers.items; moment = n.moment } };
 
-    ghost invariant = { λ n. HaveOwners (record { amf = n.amf; home = n.home; timers = n.timers.items; moment = n.moment }) };
+    ghost invariant = { λ n. HaveOwners (record { amf = n.amf; home = n.home; smf = n.smf; timers = n.timers.items; moment = n.moment }) };
 }
 
 impl Network {
@@ -63,10 +68,11 @@ impl Network {
         ensures { IfOk result (λ network. network ≡ first config.now) }
     {
         let _subscribers = &config.subscribers;
-        let (amf, home, timers) = parts(alloc, config)?;
+        let (amf, home, smf, timers) = parts(alloc, config)?;
         Ok(Network {
             amf,
             home,
+            smf,
             timers,
             moment: Moment(0),
         })
@@ -82,10 +88,12 @@ impl Network {
     {
         let amf = self.amf.copy(alloc)?;
         let home = self.home.copy(alloc)?;
+        let smf = self.smf.copy(alloc)?;
         let timers = copies(alloc, self.timers.as_slice())?;
         Ok(Network {
             amf,
             home,
+            smf,
             timers,
             moment: self.moment,
         })
@@ -95,10 +103,15 @@ impl Network {
     ///
     /// # Errors
     ///
-    /// `UnknownSupi` exactly where the SUPI is no subscriber; else `WrongState` exactly where its word isn't Registered or a procedure of
-    /// it is open; else, of `Authenticate`, `SqnSpent` exactly where SQN_HE is 2^48 - 1; else, of `Update`, in this order, `Uncompleted`
-    /// exactly where the last 5G-GUTI that was offered isn't confirmed, `Updated` exactly where the context in use has had an update,
-    /// `TmsiSpent` exactly where no 5G-TMSI is left. Or `Memory`. All is then as before.
+    /// `UnknownSupi` exactly where the SUPI is no subscriber. Of `Authenticate`, `Deregister` and `Update` then `WrongState` exactly where
+    /// its word isn't Registered or a procedure of it is open; else, of `Authenticate`, `SqnSpent` exactly where SQN_HE is 2^48 - 1; else,
+    /// of `Update`, in this order, `Uncompleted` exactly where the last 5G-GUTI that was offered isn't confirmed, `Updated` exactly where
+    /// the context in use has had an update, `TmsiSpent` exactly where no 5G-TMSI is left. Of `Modify` and `Release`, in this order,
+    /// `WrongState` exactly where the subscriber isn't registered or its word is Deregistering, `NoSuchSession` exactly where it has no
+    /// session of the identity, `SessionBusy` exactly where that is in Modifying or in Releasing, and for `Release` in Releasing; of
+    /// `Modify` also `Settling` exactly where it is in Settling, `Qos` exactly where the operations don't go with its rules, and
+    /// `NoChange` exactly where they and the session AMBR leave it as it is, or the command would be its last one once more. Or `Memory`.
+    /// All is then as before.
     pub fn command(
         &mut self,
         alloc: Global,
@@ -182,6 +195,7 @@ impl Network {
         ensures owned { IfOk result (λ followed. HaveOwners (taken_over followed.0 self.now)) }
     {
         let _moment = self.moment;
+        command.names_identity();
         match self.commanded_by(alloc, rand, command) {
             Ok(followed) => Ok(followed),
             Err(refusal) => Err(refusal),
@@ -243,10 +257,12 @@ impl Network {
     {
         let NetTurn {
             changes,
+            sessions,
             timers,
             moment,
         } = turn;
         changes.take_over(&mut self.amf, &mut self.home);
+        sessions.take_over(&mut self.smf);
         change_all(self.timers.as_mut_slice(), timers.as_slice());
         self.moment = moment;
     }
@@ -256,6 +272,13 @@ impl Network {
         ensures { result ≡ view_in supi.now self.now.amf }
     {
         self.amf.view(supi)
+    }
+
+    /// The session of a subscriber under an identity, or None exactly where there is no such session.
+    pub fn session(&self, supi: &Supi, psi: Psi) -> Option<NetSession>
+        ensures { result ≡ session_of supi.now psi self.now.smf }
+    {
+        self.smf.session(supi, psi)
     }
 
     /// A law of every network: two 5G-GUTIs at most are kept for each subscriber (TS 24.501 clauses 5.4.4 and 5.5.1.2.4). It does
@@ -283,10 +306,90 @@ impl Network {
     ) -> Result<(NetTurn, NetDelivery), NetRefusal>
         ensures { FollowsCommand self.now result (commanded rand.now command.now self.now) }
     {
+        match command {
+            NetCommand::Authenticate(supi) => {
+                self.amf_commanded(alloc, rand, &AmfInput::Authenticate(supi.copy()))
+            }
+            NetCommand::Deregister(supi) => {
+                self.amf_commanded(alloc, rand, &AmfInput::Deregister(supi.copy()))
+            }
+            NetCommand::Update { supi } => {
+                self.amf_commanded(alloc, rand, &AmfInput::Update(supi.copy()))
+            }
+            NetCommand::Modify {
+                supi,
+                psi,
+                ops,
+                ambr,
+            } => {
+                let Ok(ops) = ops.copy(alloc) else {
+                    return Err(NetRefusal::Memory);
+                };
+                let modify = SmfInput::Modify {
+                    psi: *psi,
+                    ops,
+                    ambr: *ambr,
+                };
+                self.smf_commanded(alloc, rand, supi, &modify)
+            }
+            NetCommand::Release { supi, psi } => {
+                self.smf_commanded(alloc, rand, supi, &SmfInput::Release { psi: *psi })
+            }
+        }
+    }
+
+    // The turn of a command to the AMF.
+    fn amf_commanded(
+        &self,
+        alloc: Global,
+        rand: &[u8; 16],
+        input: &AmfInput,
+    ) -> Result<(NetTurn, NetDelivery), NetRefusal>
+        ensures { FollowsCommand self.now result (amf_commanded rand.now input.now self.now) }
+    {
         let turning = Turning::begin(alloc, self, self.moment);
-        match turning.step(alloc, rand, &command.to_amf()) {
+        match turning.turn(alloc, rand, input) {
             Ok(turning) => Ok(turning.end()),
             Err(refusal) => Err(NetRefusal::from_amf(refusal)),
+        }
+    }
+
+    // The turn of a command on a session.
+    #[tactic(auto, using(crate::proofs::Served::is_served), unfolding(nas_base::specs::Branches::per, nas_base::specs::Branches::chosen))]
+    fn smf_commanded(
+        &self,
+        alloc: Global,
+        rand: &[u8; 16],
+        supi: &Supi,
+        input: &SmfInput,
+    ) -> Result<(NetTurn, NetDelivery), NetRefusal>
+        ensures { FollowsCommand self.now result (smf_commanded rand.now supi.now input.now self.now) }
+    {
+        let _moment = self.moment;
+        let Some(view) = self.view(supi) else {
+            return Err(NetRefusal::UnknownSupi);
+        };
+        if !takes_commands(&view) {
+            return Err(NetRefusal::WrongState { state: view.state });
+        }
+        self.smf_followed(alloc, rand, supi, input)
+    }
+
+    // The same where the subscriber takes it.
+    fn smf_followed(
+        &self,
+        alloc: Global,
+        rand: &[u8; 16],
+        supi: &Supi,
+        input: &SmfInput,
+    ) -> Result<(NetTurn, NetDelivery), NetRefusal>
+        requires { is_subscriber supi.now self.now.smf ≡ true }
+        ensures { FollowsCommand self.now result (smf_outcome rand.now supi.now (smf_stepped supi.now input.now (begun self.now)) self.now) }
+    {
+        let turning = Turning::begin(alloc, self, self.moment);
+        match turning.smf_step(alloc, rand, supi, input) {
+            Ok(turning) => Ok(turning.end()),
+            Err(refusal) => Err(NetRefusal::from_smf(refusal)),
         }
     }
 
@@ -343,14 +446,25 @@ impl Network {
 }
 
 // What a network begins with, but for its moment.
-fn parts(alloc: Global, config: &NetConfig) -> Result<(Amf, Home, Vec<SubscriberTimers>), Memory>
-    ensures { IfOk result (λ parts. record { amf = parts.0; home = parts.1; timers = parts.2.items; moment = 0 } ≡ first config.now) }
+fn parts(
+    alloc: Global,
+    config: &NetConfig,
+) -> Result<(Amf, Home, Smf, Vec<SubscriberTimers>), Memory>
+    ensures { IfOk result (λ parts. record { amf = parts.0; home = parts.1; smf = parts.2; timers = parts.3.items; moment = 0 } ≡ first config.now) }
 {
     let subscribers = config.subscribers.as_slice();
     let amf = Amf::new(alloc, &amf_config(alloc, config)?)?;
     let home = Home::new(alloc, &home_list(alloc, subscribers)?)?;
+    let smf = Smf::new(alloc, &smf_config(alloc, config)?)?;
     let timers = none_run(alloc, subscribers)?;
-    Ok((amf, home, timers))
+    Ok((amf, home, smf, timers))
+}
+
+// Whether a subscriber takes a command on a session: where it is registered, and isn't being de-registered by the network.
+fn takes_commands(view: &NetView) -> bool
+    ensures { result ≡ takes_commands view.now }
+{
+    view.registered && view.state != AmfWord::Deregistering
 }
 
 // As many of the octets as an AMF is handed.

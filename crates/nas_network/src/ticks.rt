@@ -1,15 +1,15 @@
 //! The timers that are due at a moment.
 ghost use Rattle.std.specs.Prelude.{◌≡◌, Some, IfOk};
 ghost use Rattle.nas_network.specs.State.{stopped_for};
-ghost use Rattle.nas_network.specs.TakingOver.{timers_taken};
-ghost use Rattle.nas_network.specs.Ticks.{all_fired, due_for, due_list, due_named, expired, fired, first_due, found_with, is_due_of, is_sooner, sooner_of, without};
-ghost use Rattle.nas_network.specs.Turns.{all_taken};
+ghost use Rattle.nas_network.specs.TakingOver.{on};
+ghost use Rattle.nas_network.specs.Ticks.{all_fired, due_for, due_list, due_named, expired, expiry, fired, first_due, found_with, is_due, is_of_smf, is_sooner, sooner_of};
 
-use crate::timers::{SubscriberTimers, TimerChange, copies, deadline_for, stop_for, take_timers};
+use crate::timers::{SubscriberTimers, TimerChange, copies, stop_for};
 use crate::turn::Turning;
-use amf_core::{AmfInput, AmfOuts, AmfRefusal};
+use amf_core::AmfInput;
 use nas_base::{Memory, Moment, Supi};
 use nas_timers::{NAMES, TimerId};
+use smf_core::SmfInput;
 use std::alloc::Global;
 use std::marker::Model;
 
@@ -139,161 +139,81 @@ fn due_of(
     Ok(list)
 }
 
-/// Timers that were due fire, one after the other. Where none was, nothing is copied.
+/// Timers that were due fire, one after the other.
 pub fn fire_all<'a>(
     alloc: Global,
     rand: &[u8; 16],
     list: Vec<DueTimer>,
     turning: Turning<'a>,
 ) -> Result<Turning<'a>, Memory>
-    ensures turn { IfOk result (λ fired. fired.turn ≡ all_fired rand.now list.items turning.entry.turn) }
-    ensures before { IfOk result (λ fired. fired.before ≡ turning.entry.before) }
+    ensures { IfOk result (λ fired. fired ≡ on (all_fired rand.now list.items turning.entry.turn) turning.entry) }
 {
-    if list.is_empty() {
-        return Ok(turning);
-    }
-    let mut firing = Firing::begin(alloc, turning)?;
+    let mut turning = turning;
     for due in list {
-        firing = firing.fire(alloc, rand, due)?;
+        turning = turning.fire(alloc, rand, due)?;
     }
-    Ok(firing.turning)
+    Ok(turning)
 }
 
-// A turn in which timers fire, and the timers as they are by now.
-#[derive(Drop)]
-struct Firing<'a> {
-    turning: Turning<'a>,
-    timers: Vec<SubscriberTimers>,
-}
-
-impl<'a> Model for Firing<'a> {
-    ghost use Rattle.std.specs.Prelude.{◌≡◌};
-    ghost use Rattle.nas_network.specs.TakingOver.{TurningState};
-
-    ghost Value = { TurningState };
-
-    ghost view = { λ f. f.turning };
-
-    ghost invariant = { λ f. f.timers.items ≡ f.turning.turn.network.timers };
-}
-
-impl<'a> Firing<'a> {
-    // None fired yet.
-    fn begin(alloc: Global, turning: Turning<'a>) -> Result<Firing<'a>, Memory>
-        ensures { IfOk result (λ firing. firing ≡ turning.entry) }
-    {
-        let timers = turning.timers_by_now(alloc)?;
-        Ok(Firing { turning, timers })
-    }
-
+impl<'a> Turning<'a> {
     // A timer that was due when the tick began.
     #[tactic(auto, unfolding(crate::specs::Ticks::fired, nas_base::specs::Branches::chosen))]
-    fn fire(self, alloc: Global, rand: &[u8; 16], due: DueTimer) -> Result<Firing<'a>, Memory>
-        ensures turn { IfOk result (λ firing. firing.turn ≡ fired rand.now due self.entry.turn) }
-        ensures before { IfOk result (λ firing. firing.before ≡ self.entry.before) }
+    fn fire(self, alloc: Global, rand: &[u8; 16], due: DueTimer) -> Result<Turning<'a>, Memory>
+        ensures { IfOk result (λ turning. turning ≡ on (fired rand.now due self.entry.turn) self.entry) }
     {
-        if !due.is_due(self.turning.moment(), self.timers.as_slice()) {
+        if !self.is_due(&due) {
             return Ok(self);
         }
         self.expire(alloc, rand, due)
     }
 
-    // It is stopped, and the step of its expiry is taken.
-    #[tactic(auto, using(crate::proofs::TakingOver::never_refused, crate::proofs::TakingOver::taken_timers), unfolding(crate::specs::Turns::turned))]
-    fn expire(self, alloc: Global, rand: &[u8; 16], due: DueTimer) -> Result<Firing<'a>, Memory>
-        ensures turn { IfOk result (λ firing. firing.turn ≡ expired rand.now due self.entry.turn) }
-        ensures before { IfOk result (λ firing. firing.before ≡ self.entry.before) }
-    {
-        let Firing { turning, timers } = self;
-        let timers = stopped(timers, &due);
-        let turning = turning.stopped(alloc, &due)?;
-        let expired = AmfInput::Expired {
-            supi: due.supi,
-            id: due.id,
-        };
-        match turning.reach(alloc, rand, &expired) {
-            Ok((turning, outs)) => gone_on(alloc, turning, timers, outs),
-            Err(AmfRefusal::Memory) => Err(Memory),
-            Err(AmfRefusal::UnknownSupi) => unreachable!(),
-            Err(AmfRefusal::WrongState { state: _ }) => unreachable!(),
-            Err(AmfRefusal::SqnSpent { sqn: _ }) => unreachable!(),
-            Err(AmfRefusal::Uncompleted { tmsi: _ }) => unreachable!(),
-            Err(AmfRefusal::Updated { tmsi: _ }) => unreachable!(),
-            Err(AmfRefusal::TmsiSpent { last: _ }) => unreachable!(),
-        }
-    }
-}
-
-// What goes out of a step is taken.
-#[tactic(auto, using(crate::proofs::TakingOver::taken_timers))]
-fn gone_on<'a>(
-    alloc: Global,
-    turning: Turning<'a>,
-    timers: Vec<SubscriberTimers>,
-    outs: AmfOuts,
-) -> Result<Firing<'a>, Memory>
-    requires { timers.items ≡ turning.turn.network.timers }
-    ensures turn { IfOk result (λ firing. firing.turn ≡ all_taken outs turning.entry.turn) }
-    ensures before { IfOk result (λ firing. firing.before ≡ turning.entry.before) }
-{
-    let timers = taken(timers, &outs);
-    let mut turning = turning;
-    turning.take_all(alloc, outs)?;
-    Ok(Firing { turning, timers })
-}
-
-// The timers once one of them is stopped.
-fn stopped(timers: Vec<SubscriberTimers>, due: &DueTimer) -> Vec<SubscriberTimers>
-    ensures { result.items ≡ stopped_for due.now.supi due.now.id timers.items }
-{
-    let mut timers = timers;
-    stop_due(&mut timers, due);
-    timers
-}
-
-// The timers as what goes out of a step leaves them.
-fn taken(timers: Vec<SubscriberTimers>, outs: &AmfOuts) -> Vec<SubscriberTimers>
-    ensures { result.items ≡ timers_taken outs.now timers.items }
-{
-    let mut timers = timers;
-    take_all(&mut timers, outs);
-    timers
-}
-
-// What goes out of a step starts and stops timers.
-fn take_all(timers: &mut Vec<SubscriberTimers>, outs: &AmfOuts)
-    ensures { timers.new.items ≡ timers_taken outs.now timers.old.items }
-{
-    take_timers(timers.as_mut_slice(), outs.items.as_slice());
-}
-
-impl<'a> Turning<'a> {
-    // One of the timers is stopped.
-    fn stopped(self, alloc: Global, due: &DueTimer) -> Result<Turning<'a>, Memory>
-        ensures turn { IfOk result (λ turning. turning.turn ≡ record self.entry.turn { network = without due.now self.entry.turn.network }) }
-        ensures before { IfOk result (λ turning. turning.before ≡ self.entry.before) }
-    {
-        let stop = TimerChange::Stop {
-            supi: due.supi.copy(),
-            id: same(&due.id),
-        };
-        let mut turning = self;
-        turning.change(stop)?;
-        Ok(turning)
-    }
-}
-
-impl DueTimer {
     // Whether the deadline of a timer is still there and has come.
     #[tactic(auto, unfolding(nas_base::specs::Branches::per))]
-    fn is_due(&self, moment: Moment, timers: &[SubscriberTimers]) -> bool
-        ensures { result ≡ is_due_of self.now moment timers.now }
+    fn is_due(&self, due: &DueTimer) -> bool
+        ensures { result ≡ is_due due.now self.now.turn.network }
     {
-        match deadline_for(timers, &self.supi, same(&self.id)) {
-            Some(at) => at <= moment,
+        match self.deadline(&due.supi, &due.id) {
+            Some(at) => at <= self.moment,
             None => false,
         }
     }
+
+    // It is stopped, and the step of its expiry is taken.
+    fn expire(self, alloc: Global, rand: &[u8; 16], due: DueTimer) -> Result<Turning<'a>, Memory>
+        ensures { IfOk result (λ turning. turning ≡ on (expired rand.now due self.entry.turn) self.entry) }
+    {
+        let DueTimer { supi, id, at: _ } = due;
+        let stop = TimerChange::Stop {
+            supi: supi.copy(),
+            id: same(&id),
+        };
+        let turning = self.changed(stop)?;
+        turning.follow_expiry(alloc, rand, supi, id)
+    }
+
+    // The step of an expiry, at the end whose timer it is.
+    #[tactic(auto, unfolding(crate::specs::Ticks::expiry, nas_base::specs::Branches::chosen))]
+    fn follow_expiry(
+        self,
+        alloc: Global,
+        rand: &[u8; 16],
+        supi: Supi,
+        id: TimerId,
+    ) -> Result<Turning<'a>, Memory>
+        ensures { IfOk result (λ turning. turning ≡ on (expiry rand.now supi id self.entry.turn) self.entry) }
+    {
+        if is_of_smf(&id) {
+            return self.smf_unrefused(alloc, rand, &supi, &SmfInput::Expired(id));
+        }
+        self.unrefused(alloc, rand, &AmfInput::Expired { supi, id })
+    }
+}
+
+// Whether a timer is one of the SMF: T3591 or T3592 of a session.
+fn is_of_smf(id: &TimerId) -> bool
+    ensures { result ≡ is_of_smf id.now }
+{
+    matches!(id, TimerId::T3591(_) | TimerId::T3592(_))
 }
 
 // One of them is stopped.

@@ -1,10 +1,9 @@
 //! The timers of the subscribers.
-ghost use Rattle.std.specs.Prelude.{◌≡◌, map, IfOk};
-ghost use Rattle.nas_network.specs.TakingOver.{timers_after, timers_taken};
-ghost use Rattle.nas_network.specs.State.{deadline_for, no_timers, started_for, stopped_for};
+ghost use Rattle.std.specs.Prelude.{◌≡◌, [], ◌∷◌, ◌++◌, map, IfOk, OnOk};
+ghost use Rattle.nas_network.specs.TakingOver.{deadline_by, timers_after};
+ghost use Rattle.nas_network.specs.State.{deadline_for, is_timed, no_timers, started_for, stopped_for};
 
 use crate::Subscriber;
-use amf_core::AmfOut;
 use mm_entity::is_same_supi;
 use nas_base::{Memory, Moment, Supi};
 use nas_timers::{TimerId, Timers};
@@ -67,19 +66,6 @@ pub fn change_all(timers: &mut [SubscriberTimers], changes: &[TimerChange])
     }
 }
 
-/// What goes out of a step starts and stops timers.
-pub fn take_timers(timers: &mut [SubscriberTimers], outs: &[AmfOut])
-    ensures { timers.new ≡ timers_taken outs.now timers.old }
-{
-    for out in outs {
-        match out {
-            AmfOut::Start { supi, id, at } => start_for(timers, supi, *id, *at),
-            AmfOut::Stop { supi, id } => stop_for(timers, supi, *id),
-            AmfOut::Send(_) | AmfOut::Passed(_) | AmfOut::Smf(_) => {}
-        }
-    }
-}
-
 /// Of none of the subscribers a timer runs.
 pub fn none_run(alloc: Global, subscribers: &[Subscriber]) -> Result<Vec<SubscriberTimers>, Memory>
     ensures { IfOk result (λ timers. timers.items ≡ map no_timers subscribers.now) }
@@ -130,8 +116,69 @@ pub fn stop_for(timers: &mut [SubscriberTimers], supi: &Supi, id: TimerId)
     }
 }
 
-/// The deadline of a timer of a subscriber.
-pub fn deadline_for(timers: &[SubscriberTimers], supi: &Supi, id: TimerId) -> Option<Moment>
+/// One more change.
+pub fn push_change(changes: &mut Vec<TimerChange>, change: TimerChange) -> Result<(), Memory>
+    ensures { OnOk result (changes.new.items ≡ changes.old.items ++ change ∷ []) }
+{
+    match changes.push(change) {
+        Ok(()) => Ok(()),
+        Err(_) => Err(Memory),
+    }
+}
+
+/// The deadline of a timer of a subscriber, behind these changes.
+#[tactic(auto, using(crate::proofs::Deadlines::none_behind))]
+pub fn deadline_by_now(
+    timers: &[SubscriberTimers],
+    changes: &[TimerChange],
+    supi: &Supi,
+    id: &TimerId,
+) -> Option<Moment>
+    ensures { result ≡ deadline_for supi.now id.now (timers_after changes.now timers.now) }
+{
+    if !is_timed(timers, supi) {
+        return None;
+    }
+    let mut at = deadline_for(timers, supi, *id);
+    for change in changes {
+        at = change.deadline_by(supi, id, at);
+    }
+    at
+}
+
+impl TimerChange {
+    // What it does to the deadline of a timer.
+    fn deadline_by(&self, supi: &Supi, id: &TimerId, before: Option<Moment>) -> Option<Moment>
+        ensures { result ≡ deadline_by self.now supi.now id.now before }
+    {
+        match self {
+            TimerChange::Start {
+                supi: whose,
+                id: name,
+                at,
+            } => { if is_same_supi(whose, supi) && name == id { Some(*at) } else { before } }
+            TimerChange::Stop {
+                supi: whose,
+                id: name,
+            } => { if is_same_supi(whose, supi) && name == id { None } else { before } }
+        }
+    }
+}
+
+// Whether timers are kept for a SUPI.
+fn is_timed(timers: &[SubscriberTimers], supi: &Supi) -> bool
+    ensures { result ≡ is_timed supi.now timers.now }
+{
+    for subscriber in timers {
+        if is_same_supi(&subscriber.supi, supi) {
+            return true;
+        }
+    }
+    false
+}
+
+// The deadline of a timer of a subscriber.
+fn deadline_for(timers: &[SubscriberTimers], supi: &Supi, id: TimerId) -> Option<Moment>
     ensures { result ≡ deadline_for supi.now id timers.now }
 {
     for subscriber in timers {

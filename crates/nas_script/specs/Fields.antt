@@ -14,7 +14,7 @@ use Rattle.nas_elements.specs.Capability.{capability_in}
 use Rattle.nas_elements.specs.Timer3.{GprsTimer, timer3_in}
 use Rattle.nas_elements.specs.declared.ambr.Ambr.{Ambr}
 use Rattle.milenage.specs.Checking.{is_for_5g}
-use Rattle.nas_network.specs.Config.{is_pool_size, pool_fits}
+use Rattle.nas_pools.specs.Config.{is_pool_size, pool_fits}
 use Rattle.nas_script.specs.Addresses.{address_in}
 use Rattle.nas_script.specs.Document.{number_at, text_at}
 use Rattle.nas_script.specs.Octets.{octets_in}

@@ -1,12 +1,13 @@
 -- The table of the network: its keys, in the order in which they are checked.
-use Rattle.std.specs.Prelude.{◌≡◌, ◌≤◌, ℕ, true, List, codes, drop, slice_index, ◌==◌, ◌||◌, Result, Ok}
+use Rattle.std.specs.Prelude.{◌≡◌, ◌≤◌, ℕ, true, List, [], None, codes, drop, slice_index, ◌==◌, ◌||◌, Result, Ok}
 use Rattle.byteorder.specs.Endian.{big_number}
 use Rattle.toml.specs.Data.{Data}
 use Rattle.nas_base.specs.Plmn.{PlmnIdentity}
 use Rattle.nas_elements.specs.Timer3.{GprsTimer}
 use Rattle.nas_elements.specs.declared.ambr.Ambr.{Ambr}
 use Rattle.nas_timers.specs.Durations.{DurationParts}
-use Rattle.nas_network.specs.Config.{NetValues, SubscriberValues, is_pool_size, pool_fits}
+use Rattle.nas_network.specs.Config.{NetValues, SubscriberValues}
+use Rattle.nas_pools.specs.Config.{is_pool_size, pool_fits}
 use Rattle.nas_script.specs.Fields.{ambr_at, ciphering_at, octets_at, plmn_at, pool_at, pool_size_at, t3512_at, tmsi_at}
 use Rattle.nas_script.specs.Reads.{◌>>=◌, named}
 use Rattle.nas_script.specs.declared.key.Key.{Key}
@@ -49,7 +50,7 @@ network_in d = do
   ambr ← named keys.Ambr (ambr_at d)
   Ok (table_of plmn amf tmsi nea tac t3512 pool pool_size ambr)
 
--- the network of a table, with these durations and subscribers
+-- the network of a table, with these durations and subscribers; it has no pool of IPv6, and no data network is listed by its addresses
 abbrev pub net_of : NetworkValues → DurationParts → List SubscriberValues → NetValues
 net_of t durations subscribers = record {
   plmn = t.plmn;
@@ -61,6 +62,8 @@ net_of t durations subscribers = record {
   t3512 = t.t3512;
   pool = t.pool;
   pool_size = t.pool_size;
+  pool6 = None;
+  kinds = [];
   ambr = t.ambr;
   durations = durations;
   subscribers = subscribers;

@@ -9,7 +9,7 @@ use Rattle.nas_world.specs.Agree.{agree, at_handset, at_network}
 use Rattle.nas_world.specs.Events.{step_of}
 use Rattle.nas_world.specs.State.{WorldState, first, honest}
 use Rattle.nas_world.specs.declared.event.RefusedWord.{RefusedWord}
-use Rattle.nas_world.specs.declared.event.RefusedWord.TheVariants.{WrongState, Spent, UnknownSupi, SqnSpent, Uncompleted, Updated, TmsiSpent}
+use Rattle.nas_world.specs.declared.event.RefusedWord.TheVariants.{WrongState, NoSuchSession, SessionThere, Busy, Qos, NoPti, Spent, UnknownSupi, SqnSpent, Uncompleted, Updated, TmsiSpent, SessionBusy, Settling, NoChange}
 use Rattle.nas_world.specs.declared.seen.Seen.{Seen}
 use Rattle.nas_script.specs.Ends.{net_text, ue_text}
 
@@ -43,12 +43,20 @@ newly_sent way before log = sents_text way (before + 1) (drop before log)
 -- the line of a refusal, where there was one
 unfoldable pub refusal_text : RefusedWord → List ℕ
 refusal_text WrongState = codes "  refused WrongState\n"
+refusal_text NoSuchSession = codes "  refused NoSuchSession\n"
+refusal_text SessionThere = codes "  refused SessionThere\n"
+refusal_text Busy = codes "  refused Busy\n"
+refusal_text Qos = codes "  refused Qos\n"
+refusal_text NoPti = codes "  refused NoPti\n"
 refusal_text Spent = codes "  refused Spent\n"
 refusal_text UnknownSupi = codes "  refused UnknownSupi\n"
 refusal_text SqnSpent = codes "  refused SqnSpent\n"
 refusal_text Uncompleted = codes "  refused Uncompleted\n"
 refusal_text Updated = codes "  refused Updated\n"
 refusal_text TmsiSpent = codes "  refused TmsiSpent\n"
+refusal_text SessionBusy = codes "  refused SessionBusy\n"
+refusal_text Settling = codes "  refused Settling\n"
+refusal_text NoChange = codes "  refused NoChange\n"
 
 abbrev pub refused_text : Option RefusedWord → List ℕ
 refused_text None = []

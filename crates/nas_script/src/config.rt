@@ -75,7 +75,7 @@ fn read_document(alloc: Global, document: &Value) -> Result<WorldConfig, ConfigR
     let table = needed(Key::Handset, handset_of(document))?;
     let handset = read_handset(&network.plmn, durations, table)?;
     Ok(WorldConfig {
-        net: network.with(durations, subscribers),
+        net: network.with(alloc, durations, subscribers),
         handset,
     })
 }

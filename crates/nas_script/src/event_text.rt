@@ -78,12 +78,20 @@ fn append_refusal(text: &mut Vec<u8>, word: RefusedWord) -> Result<(), Memory>
 {
     match word {
         RefusedWord::WrongState => append(text, b"  refused WrongState\n"),
+        RefusedWord::NoSuchSession => append(text, b"  refused NoSuchSession\n"),
+        RefusedWord::SessionThere => append(text, b"  refused SessionThere\n"),
+        RefusedWord::Busy => append(text, b"  refused Busy\n"),
+        RefusedWord::Qos => append(text, b"  refused Qos\n"),
+        RefusedWord::NoPti => append(text, b"  refused NoPti\n"),
         RefusedWord::Spent => append(text, b"  refused Spent\n"),
         RefusedWord::UnknownSupi => append(text, b"  refused UnknownSupi\n"),
         RefusedWord::SqnSpent => append(text, b"  refused SqnSpent\n"),
         RefusedWord::Uncompleted => append(text, b"  refused Uncompleted\n"),
         RefusedWord::Updated => append(text, b"  refused Updated\n"),
         RefusedWord::TmsiSpent => append(text, b"  refused TmsiSpent\n"),
+        RefusedWord::SessionBusy => append(text, b"  refused SessionBusy\n"),
+        RefusedWord::Settling => append(text, b"  refused Settling\n"),
+        RefusedWord::NoChange => append(text, b"  refused NoChange\n"),
     }
 }
 

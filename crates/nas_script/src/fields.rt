@@ -2,7 +2,7 @@
 ghost use Rattle.std.specs.Prelude.{◌≡◌, ◌==◌, ◌||◌, ◌≤◌, ◌<◌, ◌^◌, true, IfSome};
 ghost use Rattle.milenage.specs.Checking.{is_for_5g};
 ghost use Rattle.nas_base.specs.Supi.{is_of_plmn};
-ghost use Rattle.nas_network.specs.Config.{is_pool_size, pool_fits};
+ghost use Rattle.nas_pools.specs.Config.{is_pool_size, pool_fits};
 ghost use Rattle.toml.specs.View.{view};
 ghost use Rattle.nas_script.specs.Fields.{ambr_at, capability_at, ciphering_at, field_at, hex_capability_in, digits_in, octets_at, plmn_at, pool_at, pool_size_at, sqn_at, supi_at, t3512_at, tmsi_at};
 
@@ -13,7 +13,8 @@ use arrayvec::ArrayVec;
 use byteorder::{BigEndian, ByteOrder};
 use nas_base::{Digits, Plmn, Supi};
 use nas_elements::{Ambr, Capability, Timer3};
-use nas_network::{is_for_5g, is_pool_size, pool_fits};
+use nas_network::is_for_5g;
+use nas_pools::{is_pool_size, pool_fits};
 use toml::Value;
 
 /// The network of 5 or 6 digits under `plmn`.

@@ -14,7 +14,9 @@ use byteorder::{BigEndian, ByteOrder};
 use nas_base::Plmn;
 use nas_elements::{Ambr, Timer3};
 use nas_network::{NetConfig, Subscribers};
+use nas_pools::DnnKinds;
 use nas_timers::Durations;
+use std::alloc::Global;
 use std::marker::Model;
 use toml::Value;
 
@@ -70,8 +72,8 @@ pub fn read_network(table: &Value) -> Result<NetworkTable, ConfigRefusal>
 }
 
 impl NetworkTable {
-    /// The network, with these durations and subscribers.
-    pub fn with(self, durations: Durations, subscribers: Subscribers) -> NetConfig
+    /// The network, with these durations and subscribers. It has no pool of IPv6, and no data network is listed by its addresses.
+    pub fn with(self, alloc: Global, durations: Durations, subscribers: Subscribers) -> NetConfig
         requires { are_subscribers self.plmn subscribers ≡ true }
         ensures { result ≡ net_of self durations subscribers }
     {
@@ -85,6 +87,10 @@ impl NetworkTable {
             t3512: self.t3512,
             pool: self.pool,
             pool_size: self.pool_size,
+            pool6: None,
+            kinds: DnnKinds {
+                items: Vec::new(alloc),
+            },
             ambr: self.ambr,
             durations,
             subscribers,

@@ -3,7 +3,8 @@
 use crate::small_network::{network, supi};
 use nas_base::AmfWord;
 use nas_elements::{Dnn, Dnns};
-use nas_network::{Network, is_for_5g, is_pool_size, pool_fits};
+use nas_network::{Network, is_for_5g};
+use nas_pools::{is_pool_size, pool_fits};
 use std::alloc::Global;
 use std::test::Fail;
 

@@ -4,7 +4,8 @@ ghost use Rattle.nas_network.specs.Config.{are_subscribers};
 
 use nas_base::{Plmn, Supi};
 use nas_elements::{Ambr, Dnn, Dnns, Nssai, Slice, Timer3};
-use nas_network::{NetConfig, Network, Subscriber, Subscribers, pool_fits};
+use nas_network::{NetConfig, Network, Subscriber, Subscribers};
+use nas_pools::{DnnKinds, pool_fits};
 use nas_timers::Durations;
 use std::alloc::Global;
 use std::test::Fail;
@@ -30,7 +31,7 @@ fn subscriber(alloc: Global) -> Result<Subscriber, Fail> {
     })
 }
 
-fn config(plmn: Plmn, subscribers: Subscribers) -> Result<NetConfig, Fail>
+fn config(alloc: Global, plmn: Plmn, subscribers: Subscribers) -> Result<NetConfig, Fail>
     requires { are_subscribers plmn subscribers ≡ true }
 {
     let pool = [10, 45, 0, 2];
@@ -47,6 +48,10 @@ fn config(plmn: Plmn, subscribers: Subscribers) -> Result<NetConfig, Fail>
         t3512: Timer3 { unit: 0, value: 6 },
         pool,
         pool_size: 250,
+        pool6: None,
+        kinds: DnnKinds {
+            items: Vec::new(alloc),
+        },
         ambr: Ambr {
             down_unit: 6,
             down: 1000,
@@ -67,6 +72,6 @@ pub fn network(alloc: Global) -> Result<Network, Fail> {
     }
     let mut items = Vec::new(alloc);
     items.push(subscriber)?;
-    let config = config(plmn, Subscribers { items })?;
+    let config = config(alloc, plmn, Subscribers { items })?;
     Ok(Network::new(alloc, &config).ok().ok_or("memory")?)
 }

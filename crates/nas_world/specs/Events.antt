@@ -92,6 +92,11 @@ delivered_to_net number w = per (sent_at number w.up) (w, unsent) (λ (s : Send)
 -- A command is carried out, or refused. Want of memory refuses no command in this sense.
 abbrev pub ue_refusal : CommandRefusal → Seen
 ue_refusal (commands.WrongState word) = refusal words.WrongState
+ue_refusal (commands.NoSuchSession psi) = refusal words.NoSuchSession
+ue_refusal (commands.SessionThere psi) = refusal words.SessionThere
+ue_refusal (commands.Busy word) = refusal words.Busy
+ue_refusal (commands.Qos fault) = refusal words.Qos
+ue_refusal (commands.NoPti last) = refusal words.NoPti
 ue_refusal (commands.Spent next) = refusal words.Spent
 ue_refusal commands.Memory = sends []
 
@@ -109,6 +114,11 @@ net_refusal (net_refusals.SqnSpent n) = refusal words.SqnSpent
 net_refusal (net_refusals.Uncompleted tmsi) = refusal words.Uncompleted
 net_refusal (net_refusals.Updated tmsi) = refusal words.Updated
 net_refusal (net_refusals.TmsiSpent last) = refusal words.TmsiSpent
+net_refusal (net_refusals.NoSuchSession psi) = refusal words.NoSuchSession
+net_refusal (net_refusals.SessionBusy word) = refusal words.SessionBusy
+net_refusal (net_refusals.Settling sent) = refusal words.Settling
+net_refusal (net_refusals.Qos fault) = refusal words.Qos
+net_refusal net_refusals.NoChange = refusal words.NoChange
 net_refusal net_refusals.Memory = sends []
 
 abbrev pub net_outcome : Result network_turns.Turn NetRefusal → WorldState → WorldState × Seen

@@ -1,38 +1,34 @@
 //! Commands to both ends.
 ghost use Rattle.std.specs.Prelude.{◌≡◌, IfOk, OnErr};
+ghost use Rattle.nas_handset.specs.Owners as handset_owners;
+ghost use Rattle.nas_handset.specs.TakingOver as handset_turns;
 ghost use Rattle.nas_network.specs.Owners.{HaveOwners};
 ghost use Rattle.nas_network.specs.TakingOver.{taken_over};
 ghost use Rattle.nas_world.specs.Events.{order_for, ordered, sent_by_handset, sent_by_network, ue_commanded};
 
 use crate::logs::copied;
-use crate::{NetOrder, RefusedWord, Seen, World};
+use crate::{NetOrder, Seen, World, refusals};
 use nas_base::{Memory, Supi};
-use nas_handset::{CommandRefusal, Handset, UeCommand};
-use nas_network::{NetCommand, NetRefusal, NetTurn};
+use nas_handset::{HandsetTurn, UeCommand};
+use nas_network::{NetCommand, NetTurn};
 use nas_security::Sends;
 use std::alloc::Global;
 
 impl World {
     /// The handset is given a command.
-    #[tactic(auto, using(crate::proofs::Outcomes::carried_out), unfolding(crate::specs::Events::ue_commanded))]
+    #[tactic(auto, using(crate::proofs::Outcomes::carried_out, crate::proofs::Outcomes::refused_by_handset), unfolding(crate::specs::Events::ue_commanded))]
     pub(crate) fn command(&mut self, alloc: Global, command: &UeCommand) -> Result<Seen, Memory>
         ensures ok { IfOk result (λ seen. ue_commanded command.now self.old ≡ (self.new, seen)) }
         ensures err { OnErr result (self.new ≡ self.old) }
     {
         match self.handset.follow_command(alloc, command) {
-            Ok((handset, sends)) => self.handset_sends(alloc, handset, sends),
-            Err(CommandRefusal::WrongState { state: _ }) => {
-                Ok(Seen::refusal(alloc, RefusedWord::WrongState))
-            }
-            Err(CommandRefusal::Spent { next: _ }) => {
-                Ok(Seen::refusal(alloc, RefusedWord::Spent))
-            }
-            Err(CommandRefusal::Memory) => Err(Memory),
+            Ok((turn, sends)) => self.handset_sends(alloc, turn, sends),
+            Err(refusal) => refusals::by_handset(alloc, refusal),
         }
     }
 
     /// The network is given a command about the handset's subscriber.
-    #[tactic(auto, unfolding(crate::specs::Events::ordered))]
+    #[tactic(auto, using(crate::proofs::Outcomes::refused_by_network), unfolding(crate::specs::Events::ordered))]
     pub(crate) fn order(&mut self, alloc: Global, order: NetOrder) -> Result<Seen, Memory>
         ensures ok { IfOk result (λ seen. ordered order self.old ≡ (self.new, seen)) }
         ensures err { OnErr result (self.new ≡ self.old) }
@@ -40,39 +36,24 @@ impl World {
         let command = order_for(order, &self.supi);
         match self.network.follow_command(alloc, &self.random, &command) {
             Ok((turn, delivery)) => self.network_sends(alloc, turn, delivery.sends),
-            Err(NetRefusal::UnknownSupi) => { Ok(Seen::refusal(alloc, RefusedWord::UnknownSupi)) }
-            Err(NetRefusal::WrongState { state: _ }) => {
-                Ok(Seen::refusal(alloc, RefusedWord::WrongState))
-            }
-            Err(NetRefusal::SqnSpent { sqn: _ }) => {
-                Ok(Seen::refusal(alloc, RefusedWord::SqnSpent))
-            }
-            Err(NetRefusal::Uncompleted { tmsi: _ }) => {
-                Ok(Seen::refusal(alloc, RefusedWord::Uncompleted))
-            }
-            Err(NetRefusal::Updated { tmsi: _ }) => {
-                Ok(Seen::refusal(alloc, RefusedWord::Updated))
-            }
-            Err(NetRefusal::TmsiSpent { last: _ }) => {
-                Ok(Seen::refusal(alloc, RefusedWord::TmsiSpent))
-            }
-            Err(NetRefusal::Memory) => Err(Memory),
+            Err(refusal) => refusals::by_network(alloc, refusal),
         }
     }
 
-    /// The handset came to this, and sent messages.
+    /// The handset took its turn, and sent messages.
     pub(crate) fn handset_sends(
         &mut self,
         alloc: Global,
-        handset: Handset,
+        turn: HandsetTurn,
         sends: Sends,
     ) -> Result<Seen, Memory>
-        ensures ok { IfOk result (λ seen. sent_by_handset handset sends self.old ≡ (self.new, seen)) }
+        requires { handset_owners.HaveOwners (handset_turns.taken_over turn self.old.handset) }
+        ensures ok { IfOk result (λ seen. sent_by_handset (handset_turns.taken_over turn self.old.handset) sends self.old ≡ (self.new, seen)) }
         ensures err { OnErr result (self.new ≡ self.old) }
     {
         let seen = Seen::of(copied(alloc, &sends)?);
         self.judged.send_up(alloc, sends)?;
-        self.handset = handset;
+        turn.take_over(&mut self.handset);
         Ok(seen)
     }
 

@@ -86,7 +86,7 @@ impl World {
         ensures ok { IfOk result (λ seen. brought_to_ue octets self.old ≡ (self.new, seen)) }
         ensures err { OnErr result (self.new ≡ self.old) }
     {
-        let (handset, delivery) = self.handset.follow_delivery(alloc, octets.as_slice())?;
+        let (turn, delivery) = self.handset.follow_delivery(alloc, octets.as_slice())?;
         let seen = Seen::of(copied(alloc, &delivery.sends)?);
         let heard = Heard {
             octets,
@@ -95,7 +95,7 @@ impl World {
             sends: delivery.sends,
         };
         self.taken.hear(alloc, &mut self.judged, heard)?;
-        self.handset = handset;
+        turn.take_over(&mut self.handset);
         Ok(seen)
     }
 }

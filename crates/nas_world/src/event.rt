@@ -47,6 +47,16 @@ pub enum Event {
 pub enum RefusedWord {
     /// The command doesn't begin in this state.
     WrongState,
+    /// There is no session of this identity to modify or to release.
+    NoSuchSession,
+    /// There is a session of this identity, or one is being established.
+    SessionThere,
+    /// A transaction of the handset's session is open.
+    Busy,
+    /// The operations don't go with the session's QoS rules.
+    Qos,
+    /// The handset has no identity left for a transaction.
+    NoPti,
     /// The context has no count left for the command's message.
     Spent,
     /// The handset is no subscriber.
@@ -59,4 +69,10 @@ pub enum RefusedWord {
     Updated,
     /// No 5G-TMSI is left.
     TmsiSpent,
+    /// The network's session is busy with a command.
+    SessionBusy,
+    /// Copies of the session's last command or of its answer may still be under way.
+    Settling,
+    /// The session would stay as it is, or the command would be its last one once more.
+    NoChange,
 }

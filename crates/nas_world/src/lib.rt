@@ -12,6 +12,7 @@ mod honesty;
 mod logs;
 mod moments;
 mod passes;
+mod refusals;
 mod script;
 mod seen;
 mod sent;

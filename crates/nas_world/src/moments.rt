@@ -17,8 +17,8 @@ impl World {
         ensures ok { IfOk result (λ seen. ue_ticked now self.old ≡ (self.new, seen)) }
         ensures err { OnErr result (self.new ≡ self.old) }
     {
-        let (handset, sends) = self.handset.follow_tick(alloc, now)?;
-        self.handset_sends(alloc, handset, sends)
+        let (turn, sends) = self.handset.follow_tick(alloc, now)?;
+        self.handset_sends(alloc, turn, sends)
     }
 
     /// The network is told the moment.

@@ -7,7 +7,6 @@
 
 mod answers;
 mod pool_times;
-mod session_texts;
 mod smf_calls;
 mod smf_config;
 mod smf_course;

@@ -1,11 +1,10 @@
 //! The words that are given to an SMF; smf_calls lists them.
 
-use crate::smf_config::{parts_of, read_ambr, read_dnn};
-use crate::ue_inputs::{message, ops};
 use nas_base::Moment;
-use nas_elements::{Ambr, Dnn, Slice, Status};
+use nas_elements::{Dnn, Slice};
 use nas_security::Challenge;
 use probe_words::{Refusal, exactly, moment, octets, session, timer};
+use session_words::{ambr_or_none, message, ops, parts_of, read_dnn, read_status};
 use smf_core::SmfInput;
 use std::alloc::Global;
 
@@ -101,13 +100,6 @@ fn frame(
     })
 }
 
-fn ambr_or_none(alloc: Global, word: &str) -> Result<Option<Ambr>, Refusal> {
-    match word {
-        "none" => Ok(None),
-        _ => Ok(Some(read_ambr(alloc, word)?)),
-    }
-}
-
 fn dnn_or_none(alloc: Global, word: &str) -> Result<Option<Dnn>, Refusal> {
     match word {
         "none" => Ok(None),
@@ -122,8 +114,4 @@ fn slice_or_none(alloc: Global, word: &str) -> Result<Option<Slice>, Refusal> {
             .map(Some)
             .map_err(|_| Refusal::Unreadable),
     }
-}
-
-fn read_status(alloc: Global, word: &str) -> Result<Status, Refusal> {
-    Status::read(&octets(alloc, word)?).map_err(|_| Refusal::Unreadable)
 }

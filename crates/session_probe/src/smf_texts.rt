@@ -1,9 +1,8 @@
 //! What goes out of an SMF, and what can be seen of it, as text; smf_calls lists its forms.
 
-use crate::session_texts::{add, session_text, timer_text};
 use nas_base::{Psi, Supi};
-use nas_qos::QosFault;
 use probe_words::{Refusal, literal, push, text, word};
+use session_words::{add, fault_text, network_session_text, no_such_session_text, timer_text};
 use smf_core::{Smf, SmfOut, SmfOuts, SmfRefusal};
 use std::alloc::Global;
 
@@ -22,9 +21,7 @@ pub fn outs_text(alloc: Global, outs: &SmfOuts) -> Result<String, Refusal> {
 /// Why a command was refused, with a comma behind it.
 pub fn refusal_text(alloc: Global, refusal: SmfRefusal) -> Result<String, Refusal> {
     match refusal {
-        SmfRefusal::NoSuchSession { psi } => {
-            word(format!(in alloc; "refused:no_such_session:{},", psi.0))
-        }
+        SmfRefusal::NoSuchSession { psi } => no_such_session_text(alloc, psi),
         SmfRefusal::WrongState { state } => {
             word(format!(in alloc; "refused:wrong_state:{state:?},"))
         }
@@ -32,14 +29,6 @@ pub fn refusal_text(alloc: Global, refusal: SmfRefusal) -> Result<String, Refusa
         SmfRefusal::Qos(fault) => fault_text(alloc, fault),
         SmfRefusal::NoChange => literal(alloc, "refused:no_change,"),
         SmfRefusal::Memory => Err(Refusal::Memory),
-    }
-}
-
-/// Why operations on QoS rules don't go with the rules, with a comma behind it.
-fn fault_text(alloc: Global, fault: QosFault) -> Result<String, Refusal> {
-    match fault {
-        QosFault::Semantic { rule } => word(format!(in alloc; "refused:semantic:{rule},")),
-        QosFault::TooMany { count } => word(format!(in alloc; "refused:too_many:{count},")),
     }
 }
 
@@ -82,8 +71,6 @@ fn add_session(
     let Some(seen) = smf.session(supi, psi) else {
         return Ok(());
     };
-    let (state, sent) = (seen.state, seen.sent);
-    let head = word(format!(in alloc; "|{}:{state:?}:{sent}:", psi.0))?;
-    push(line, head.as_str())?;
-    push(line, session_text(alloc, seen.session)?.as_str())
+    push(line, "|")?;
+    push(line, network_session_text(alloc, &seen)?.as_str())
 }

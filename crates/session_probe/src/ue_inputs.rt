@@ -1,12 +1,10 @@
 //! The words that are given to a handset's sessions; ue_calls lists them.
-ghost use Rattle.std.specs.Prelude.{◌≤◌};
 
-use nas_base::{Moment, Octets, Psi};
-use nas_elements::{Dnn, Status};
-use nas_qos::{OpsRefusal, RuleOps, read_ops};
-use probe_words::{Refusal, kept, moment, octets, session, timer};
+use nas_base::Moment;
+use probe_words::{Refusal, moment, timer};
+use session_words::{message, read_status, session_command};
 use std::alloc::Global;
-use ue_sm::{SessionKind, SmCommand, SmInput};
+use ue_sm::SmInput;
 
 /// What a word gives.
 #[derive(Drop)]
@@ -32,8 +30,8 @@ fn input_of(alloc: Global, name: &str, value: &str) -> Result<SmInput, Refusal> 
         "frame" => Ok(SmInput::Frame(message(alloc, value)?)),
         "not_forwarded" => Ok(SmInput::NotForwarded(message(alloc, value)?)),
         "expired" => Ok(SmInput::Expired(timer(value)?)),
-        "keep" => Ok(SmInput::Keep(status(alloc, value)?)),
-        _ => Ok(SmInput::Command(command(alloc, name, value)?)),
+        "keep" => Ok(SmInput::Keep(read_status(alloc, value)?)),
+        _ => Ok(SmInput::Command(session_command(alloc, name, value)?)),
     }
 }
 
@@ -46,67 +44,4 @@ fn bare(word: &str) -> Result<Given, Refusal> {
         "clear" => Ok(Given::Input(SmInput::Clear)),
         _ => Err(Refusal::Unreadable),
     }
-}
-
-fn command(alloc: Global, name: &str, value: &str) -> Result<SmCommand, Refusal> {
-    match name {
-        "establish" => establish(alloc, value),
-        "modify" => modify(alloc, value),
-        "release" => Ok(SmCommand::Release {
-            psi: session(value)?,
-        }),
-        _ => Err(Refusal::Unreadable),
-    }
-}
-
-fn establish(alloc: Global, words: &str) -> Result<SmCommand, Refusal> {
-    let Some((number, words)) = words.split_once(":") else {
-        return Err(Refusal::Unreadable);
-    };
-    let Some((kind, name)) = words.split_once(":") else {
-        return Err(Refusal::Unreadable);
-    };
-    Ok(SmCommand::Establish {
-        psi: session(number)?,
-        kind: session_kind(kind)?,
-        dnn: network(alloc, name)?,
-    })
-}
-
-fn modify(alloc: Global, words: &str) -> Result<SmCommand, Refusal> {
-    let Some((number, operations)) = words.split_once(":") else {
-        return Err(Refusal::Unreadable);
-    };
-    let psi = session(number)?;
-    let ops = ops(alloc, operations)?;
-    Ok(SmCommand::Modify { psi, ops })
-}
-
-fn session_kind(word: &str) -> Result<SessionKind, Refusal> {
-    match word.parse::<u8>() {
-        Ok(kind) if 1 <= kind && kind <= 3 => Ok(SessionKind(kind)),
-        _ => Err(Refusal::Unreadable),
-    }
-}
-
-/// Operations on QoS rules.
-pub fn ops(alloc: Global, word: &str) -> Result<RuleOps, Refusal> {
-    match read_ops(alloc, octets(alloc, word)?.as_slice()) {
-        Ok(ops) => Ok(ops),
-        Err(OpsRefusal::Syntax { at: _ }) => Err(Refusal::Unreadable),
-        Err(OpsRefusal::Memory) => Err(Refusal::Memory),
-    }
-}
-
-fn status(alloc: Global, word: &str) -> Result<Status, Refusal> {
-    Status::read(&octets(alloc, word)?).map_err(|_| Refusal::Unreadable)
-}
-
-/// A message.
-pub fn message(alloc: Global, word: &str) -> Result<Octets, Refusal> {
-    kept(alloc, &octets(alloc, word)?)
-}
-
-fn network(alloc: Global, word: &str) -> Result<Dnn, Refusal> {
-    Dnn::read(&octets(alloc, word)?).map_err(|_| Refusal::Unreadable)
 }

@@ -1,11 +1,9 @@
 //! What goes out of a handset's sessions, and what can be seen of them, as text; ue_calls lists its forms.
 
-use crate::session_texts::{add, session_text, timer_text};
 use nas_base::{Octets, Psi, SmWord};
 use nas_elements::Dnn;
-use nas_qos::QosFault;
 use probe_words::{Refusal, none, push, text, word};
-use sm_messages::Session;
+use session_words::{add, fault_text, handset_session_text, no_such_session_text, timer_text};
 use std::alloc::Global;
 use ue_sm::{SmOut, SmOuts, SmStepRefusal, UeSm};
 
@@ -24,9 +22,7 @@ pub fn outs_text(alloc: Global, outs: &SmOuts) -> Result<String, Refusal> {
 /// Why a command was refused, with a comma behind it.
 pub fn refusal_text(alloc: Global, refusal: SmStepRefusal) -> Result<String, Refusal> {
     match refusal {
-        SmStepRefusal::NoSuchSession { psi } => {
-            word(format!(in alloc; "refused:no_such_session:{},", psi.0))
-        }
+        SmStepRefusal::NoSuchSession { psi } => no_such_session_text(alloc, psi),
         SmStepRefusal::SessionThere { psi } => {
             word(format!(in alloc; "refused:session_there:{},", psi.0))
         }
@@ -36,13 +32,6 @@ pub fn refusal_text(alloc: Global, refusal: SmStepRefusal) -> Result<String, Ref
         SmStepRefusal::Qos(fault) => fault_text(alloc, fault),
         SmStepRefusal::NoPti { last } => word(format!(in alloc; "refused:no_pti:{last},")),
         SmStepRefusal::Memory => Err(Refusal::Memory),
-    }
-}
-
-fn fault_text(alloc: Global, fault: QosFault) -> Result<String, Refusal> {
-    match fault {
-        QosFault::Semantic { rule } => word(format!(in alloc; "refused:semantic:{rule},")),
-        QosFault::TooMany { count } => word(format!(in alloc; "refused:too_many:{count},")),
     }
 }
 
@@ -97,20 +86,6 @@ fn add_session(alloc: Global, state: &UeSm, psi: Psi, line: &mut String) -> Resu
     if !line.is_empty() {
         push(line, "|")?;
     }
-    let text = seen_text(alloc, psi, seen.state, seen.session)?;
+    let text = handset_session_text(alloc, &seen)?;
     push(line, text.as_str())
-}
-
-fn seen_text(
-    alloc: Global,
-    psi: Psi,
-    state: SmWord,
-    session: Option<&Session>,
-) -> Result<String, Refusal> {
-    let mut line = word(format!(in alloc; "{}:{state:?}", psi.0))?;
-    if let Some(session) = session {
-        push(&mut line, ":")?;
-        push(&mut line, session_text(alloc, session)?.as_str())?;
-    }
-    Ok(line)
 }

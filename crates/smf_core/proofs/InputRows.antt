@@ -55,12 +55,12 @@ taken_by ok w c right pti (sm.PduSessionModificationCommandReject m) =
 taken_by ok w c right pti (sm.PduSessionReleaseRequest m) = release_asked ok w c.psi right pti w unchanged
 taken_by ok w c right pti (sm.PduSessionReleaseComplete m) = release_completed_by ok w c.psi right pti w unchanged
 taken_by ok w c right pti (sm.FiveGsmStatus m) = status_by ok w c.psi right m.cause pti w unchanged
-taken_by ok w c right pti (sm.PduSessionEstablishmentAccept m) = said ok w c.psi right w c.psi pti _ unchanged
-taken_by ok w c right pti (sm.PduSessionEstablishmentReject m) = said ok w c.psi right w c.psi pti _ unchanged
-taken_by ok w c right pti (sm.PduSessionModificationReject m) = said ok w c.psi right w c.psi pti _ unchanged
-taken_by ok w c right pti (sm.PduSessionModificationCommand m) = said ok w c.psi right w c.psi pti _ unchanged
-taken_by ok w c right pti (sm.PduSessionReleaseReject m) = said ok w c.psi right w c.psi pti _ unchanged
-taken_by ok w c right pti (sm.PduSessionReleaseCommand m) = said ok w c.psi right w c.psi pti _ unchanged
+taken_by ok w c right pti (sm.PduSessionEstablishmentAccept m) = said ok w c.psi right w pti _ unchanged
+taken_by ok w c right pti (sm.PduSessionEstablishmentReject m) = said ok w c.psi right w pti _ unchanged
+taken_by ok w c right pti (sm.PduSessionModificationReject m) = said ok w c.psi right w pti _ unchanged
+taken_by ok w c right pti (sm.PduSessionModificationCommand m) = said ok w c.psi right w pti _ unchanged
+taken_by ok w c right pti (sm.PduSessionReleaseReject m) = said ok w c.psi right w pti _ unchanged
+taken_by ok w c right pti (sm.PduSessionReleaseCommand m) = said ok w c.psi right w pti _ unchanged
 
 read_by : (ok : ℕ → Bool) (w : Working) (c : Carried) → ok c.psi ≡ true
     → (r : Result SmFrame SmRefusal) (octets : List ℕ)
@@ -68,11 +68,11 @@ read_by : (ok : ℕ → Bool) (w : Working) (c : Carried) → ok c.psi ≡ true
 read_by ok w c right (Ok message) octets = taken_by ok w c right message.pti message.body
 read_by ok w c right (Err (unread.Ignored at)) octets = unchanged
 read_by ok w c right (Err (unread.UnknownType n)) octets =
-    said ok w c.psi right w c.psi (slice_index_or octets 2 0) _ unchanged
+    said ok w c.psi right w (slice_index_or octets 2 0) _ unchanged
 read_by ok w c right (Err (unread.Mandatory n at)) octets =
     when_holds (Shifted ok w) (slice_index_or octets 3 0 == five_gsm_status) w
     (status c.psi (slice_index_or octets 2 0) cause.INVALID_MANDATORY_INFORMATION w)
-    (λ _. unchanged) (λ _. said ok w c.psi right w c.psi (slice_index_or octets 2 0) _ unchanged)
+    (λ _. unchanged) (λ _. said ok w c.psi right w (slice_index_or octets 2 0) _ unchanged)
 read_by ok w c right (Err unread.Memory) octets = unchanged
 
 delivered_by : (ok : ℕ → Bool) (w : Working) (c : Carried) → ok c.psi ≡ true → (octets : List ℕ)

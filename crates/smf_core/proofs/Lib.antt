@@ -6,6 +6,8 @@ pub mod Holders
 pub mod InputRows
 pub mod Moves
 pub mod OthersLaws
+pub mod OwnOuts
+pub mod OwnTimers
 pub mod Places
 pub mod RequestLaws
 pub mod SameRules
@@ -15,5 +17,6 @@ pub mod ShiftedRows
 pub mod Shifts
 pub mod StatusLaws
 pub mod StepSessions
+pub mod SubscriberLaws
 pub mod TimerLaw
 pub mod TimerRuns

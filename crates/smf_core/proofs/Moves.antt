@@ -67,7 +67,7 @@ releasing_moved ok w v psi pti timer session right m =
     (stop_moved ok w v timer m))
 
 -- What a change of a cell leaves: the cells of other subscribers,
-same_octets : (a b : List ℕ) → bytes_eq a b ≡ true → a ≡ b
+pub same_octets : (a b : List ℕ) → bytes_eq a b ≡ true → a ≡ b
 same_octets a b e = grind (arith, bytes_eq-Decides a b, e)
 
 other_found : (supi other : List ℕ) (psi : ℕ) (c : Cell) (x : Subscriber) (xs : List Subscriber) (is its : Bool)
@@ -84,14 +84,14 @@ other_found supi other psi c x xs true false apart e f rest = rw f refl
 other_found supi other psi c x xs false true apart e f rest = rw f refl
 other_found supi other psi c x xs false false apart e f rest = rw f rest
 
-others_found : (supi other : List ℕ) (psi : ℕ) (c : Cell) (ss : List Subscriber) → bytes_eq supi other ≡ false
+pub others_found : (supi other : List ℕ) (psi : ℕ) (c : Cell) (ss : List Subscriber) → bytes_eq supi other ≡ false
     → subscriber_in other (with_cell supi psi c ss) ≡ subscriber_in other ss
 others_found supi other psi c [] apart = refl
 others_found supi other psi c (x ∷ xs) apart =
     other_found supi other psi c x xs (bytes_eq x.supi supi) (bytes_eq x.supi other) apart refl refl
     (others_found supi other psi c xs apart)
 
-put_leaves_others : (supi other : List ℕ) (psi q : ℕ) (c : Cell) (smf : SmfState) → bytes_eq supi other ≡ false
+pub put_leaves_others : (supi other : List ℕ) (psi q : ℕ) (c : Cell) (smf : SmfState) → bytes_eq supi other ≡ false
     → cell_of other q (put_cell supi psi c smf) ≡ cell_of other q smf
 unfolding cell_of put_cell
 put_leaves_others supi other psi q c smf apart = ap (cell_at q) (others_found supi other psi c smf.subscribers apart)

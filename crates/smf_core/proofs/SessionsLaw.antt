@@ -115,7 +115,7 @@ pub shifted_sessions : (ok : ℕ → Bool) (w v : Working) → ((psi : ℕ) → 
     → Stands w.supi w.smf → AreSessions w.smf
     → Shifted ok w v → AreSessions v.smf
 shifted_sessions ok w _ named s are unchanged = are
-shifted_sessions ok w _ named s are (tells v a t m) = shifted_sessions ok w v named s are m
+shifted_sessions ok w _ named s are (tells v a t n m) = shifted_sessions ok w v named s are m
 shifted_sessions ok w _ named s are (keeps v psi c right alike m) =
     let now = shifted_sessions ok w v named s are m in
     let stands = moved_stands ok w v s (shifted_moved ok w v m) in

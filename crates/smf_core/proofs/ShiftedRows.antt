@@ -54,8 +54,8 @@ module _ (ok : ℕ → Bool) (w : Working) (psi : ℕ) (right : ok psi ≡ true)
   abbrev M : Working → Type 0
   M v = Shifted ok w v
 
-  pub said : (v : Working) (p pti : ℕ) (body : Sm) → M v → M (say p pti body v)
-  said v p pti body m = tells v (Down p (frame p pti body)) refl m
+  pub said : (v : Working) (pti : ℕ) (body : Sm) → M v → M (say psi pti body v)
+  said v pti body m = tells v (Down psi (frame psi pti body)) refl right m
 
   pub removed_by : (v : Working) → M v → M (removed psi v)
   unfolding removed
@@ -83,7 +83,7 @@ module _ (ok : ℕ → Bool) (w : Working) (psi : ℕ) (right : ok psi ≡ true)
       (λ _. m)
       (λ _. per_holds M (held psi v) (release_rejected psi pti cause.INVALID_PDU_SESSION_IDENTITY v)
       (λ (h : Held). release_requested_in h.phase psi pti h.session v)
-      (λ _. said v psi pti _ m) (λ h e. release_asked_in v h e h.phase refl pti m))
+      (λ _. said v pti _ m) (λ h e. release_asked_in v h e h.phase refl pti m))
 
   -- modification
   pub modifying_by : (v : Working) (h : Held) → held psi v ≡ Some h → (last : Option LastCommand) → h.phase ≡ Active last
@@ -97,17 +97,17 @@ module _ (ok : ℕ → Bool) (w : Working) (psi : ℕ) (right : ok psi ≡ true)
       → (x : Modification) → IsOpen (T3591 psi) x.command → (pti : ℕ) → M v → M (modification_asked x last psi pti h.session v)
   asked_by_it v h e last p x timer pti m =
       when_holds M (changes_nothing x last h.session) (modification_rejected psi pti cause.SEMANTIC_ERROR_IN_THE_QOS_OPERATION v)
-      (modifying x psi h.session v) (λ _. said v psi pti _ m) (λ _. modifying_by v h e last p x timer m)
+      (modifying x psi h.session v) (λ _. said v pti _ m) (λ _. modifying_by v h e last p x timer m)
 
   asked_with_it : (v : Working) (h : Held) → held psi v ≡ Some h → (last : Option LastCommand) → h.phase ≡ Active last
       → (r : Result (List QosRule) QosFault) (ops : List Operation) (pti : ℕ) → M v → M (asked_with r ops last psi pti h.session v)
   asked_with_it v h e last p (Ok rules) ops pti m = asked_by_it v h e last p (modification psi pti None ops rules h.session) (first_sent (T3591 psi) (modification psi pti None ops rules h.session).command refl refl) pti m
-  asked_with_it v h e last p (Err fault) ops pti m = said v psi pti _ m
+  asked_with_it v h e last p (Err fault) ops pti m = said v pti _ m
 
   asked_by_them : (v : Working) (h : Held) → held psi v ≡ Some h → (last : Option LastCommand) → h.phase ≡ Active last
       → (r : Result (List Operation) ℕ) (pti : ℕ) → M v → M (asked_by r last psi pti h.session v)
   asked_by_them v h e last p (Ok ops) pti m = asked_with_it v h e last p (all_applied ops h.session.rules) ops pti m
-  asked_by_them v h e last p (Err at) pti m = said v psi pti _ m
+  asked_by_them v h e last p (Err at) pti m = said v pti _ m
 
   active_asked : (v : Working) (h : Held) → held psi v ≡ Some h → (last : Option LastCommand) → h.phase ≡ Active last
       → (rules : Option (List ℕ)) (pti : ℕ) → M v → M (requested_in_active rules last psi pti h.session v)
@@ -115,13 +115,13 @@ module _ (ok : ℕ → Bool) (w : Working) (psi : ℕ) (right : ok psi ≡ true)
   active_asked v h e last p rules pti m =
       per_holds M rules (modification_rejected psi pti cause.SEMANTIC_ERROR_IN_THE_QOS_OPERATION v)
       (λ (octets : List ℕ). asked_by (ops_in octets) last psi pti h.session v)
-      (λ _. said v psi pti _ m) (λ octets _. asked_by_them v h e last p (ops_in octets) pti m)
+      (λ _. said v pti _ m) (λ octets _. asked_by_them v h e last p (ops_in octets) pti m)
 
   modification_asked_in : (v : Working) (h : Held) → held psi v ≡ Some h → (phase : Phase) → h.phase ≡ phase → (rules : Option (List ℕ)) (pti : ℕ)
       → M v → M (modification_requested_in phase rules psi pti h.session v)
   modification_asked_in v h e (Active last) p rules pti m = active_asked v h e last p rules pti m
   modification_asked_in v h e (Modifying x) p rules pti m = m
-  modification_asked_in v h e (Settling last) p rules pti m = said v psi pti _ m
+  modification_asked_in v h e (Settling last) p rules pti m = said v pti _ m
   modification_asked_in v h e (Releasing c) p rules pti m = m
 
   pub modification_asked_for : (rules : Option (List ℕ)) (pti : ℕ) (v : Working) → M v → M (modification_requested rules psi pti v)
@@ -133,7 +133,7 @@ module _ (ok : ℕ → Bool) (w : Working) (psi : ℕ) (right : ok psi ≡ true)
       (λ _. m)
       (λ _. per_holds M (held psi v) (modification_rejected psi pti cause.INVALID_PDU_SESSION_IDENTITY v)
       (λ (h : Held). modification_requested_in h.phase rules psi pti h.session v)
-      (λ _. said v psi pti _ m) (λ h e. modification_asked_in v h e h.phase refl rules pti m))
+      (λ _. said v pti _ m) (λ h e. modification_asked_in v h e h.phase refl rules pti m))
 
   -- Answers: the session and the modification are those that are kept.
   pub record Commanded (v : Working) (o : SessionValues × Modification) : Type 0 where
@@ -169,7 +169,7 @@ module _ (ok : ℕ → Bool) (w : Working) (psi : ℕ) (right : ok psi ≡ true)
       let address : session.address ≡ a.its.session.address = same ∙ ap (λ (s : SessionValues). s.address) (sym a.session) in
       when_holds M (o.1.command.sendings == 1) (hold psi one (stop o.1.command.timer v)) (fence (hold psi more (stop o.1.command.timer v)))
       (λ _. closes v psi o.1 one a.its right a.there a.in_it address refl tt m)
-      (λ _. tells (hold psi more (stop o.1.command.timer v)) Fence refl (closes v psi o.1 more a.its right a.there a.in_it address refl tt m))
+      (λ _. tells (hold psi more (stop o.1.command.timer v)) Fence refl refl (closes v psi o.1 more a.its right a.there a.in_it address refl tt m))
 
   pub completed_by : (pti : ℕ) (v : Working) → M v → M (modification_completed psi pti v)
   unfolding modification_completed
@@ -280,7 +280,7 @@ module _ (ok : ℕ → Bool) (w : Working) (psi : ℕ) (right : ok psi ≡ true)
     refused_to n v none m =
         let body : Sm = sm.PduSessionEstablishmentReject (record { cause = n }) in
         let kept : Cell = record { held = None; answer = Some (answer_of a body) } in
-        tells (put psi kept v) (Down psi (frame psi pti body)) refl
+        tells (put psi kept v) (Down psi (frame psi pti body)) refl right
         (keeps v psi kept right (λ s is. alike_equal psi None (held psi v) (none s is)) m)
 
     accepted_with_it : (asked : Asked) (kind : ℕ) (taking : Address × PoolsParts) (v : Working) → take_of kind v.smf.pools ≡ Some taking → IsVacant v → M v
@@ -290,7 +290,7 @@ module _ (ok : ℕ → Bool) (w : Working) (psi : ℕ) (right : ok psi ≡ true)
         let h : Held = record { session = new_session asked taking.0 v.smf.config.ambr; phase = Active None } in
         let body : Sm = accept asked taking.0 v.smf.config.ambr in
         let kept : Cell = record { held = Some h; answer = Some (answer_of a body) } in
-        tells (put psi kept (with_pools taking.1 v)) (Down psi (frame psi pti body)) refl
+        tells (put psi kept (with_pools taking.1 v)) (Down psi (frame psi pti body)) refl right
         (takes v psi kind taking.0 taking.1 kept h right e refl refl refl tt none m)
 
     addressed_by : (asked : Asked) (kind : ℕ) (v : Working) → IsVacant v → M v → M (addressed a asked kind v)
@@ -321,7 +321,7 @@ module _ (ok : ℕ → Bool) (w : Working) (psi : ℕ) (right : ok psi ≡ true)
     repeated_by : (kept : Answer) (v : Working) → M v → M (repeated a kept v)
     repeated_by kept v m =
         when_holds M (is_none (held psi v) && is_accept kept.message.body) v (say_frame psi kept.message v) (λ _. m)
-        (λ _. tells v (Down psi kept.message) refl m)
+        (λ _. tells v (Down psi kept.message) refl right m)
 
     compared_by : (kept : Answer) (kind : Option ℕ) (dnn : Option (List ℕ)) (slice : Option Slice) (v : Working) → M v
         → M (compared a kept (newly_requested a kind dnn slice) v)

@@ -43,10 +43,17 @@ is_untimed Fence = true
 is_untimed (Start id at) = false
 is_untimed (Stop id) = false
 
+-- a message that is said is under an identity that the test allows
+abbrev pub is_allowed : (ℕ → Bool) → Act → Bool
+is_allowed ok (Down psi message) = ok psi
+is_allowed ok Fence = true
+is_allowed ok (Start id at) = true
+is_allowed ok (Stop id) = true
+
 pub data Shifted (ok : ℕ → Bool) (w : Working) : Working → Type 0 where
   unchanged : Shifted ok w w
   -- something is said
-  tells : (v : Working) (a : Act) → is_untimed a ≡ true → Shifted ok w v → Shifted ok w (act a v)
+  tells : (v : Working) (a : Act) → is_untimed a ≡ true → is_allowed ok a ≡ true → Shifted ok w v → Shifted ok w (act a v)
   -- a cell is changed, but for the session's address and timers
   keeps : (v : Working) (psi : ℕ) (c : Cell) → ok psi ≡ true → (Stands w.supi w.smf → is_psi psi ≡ true → Alike psi c.held (held psi v))
       → Shifted ok w v → Shifted ok w (put psi c v)
@@ -74,7 +81,7 @@ pub data Shifted (ok : ℕ → Bool) (w : Working) : Working → Type 0 where
 -- each of them puts cells, takes and gives addresses, and says something
 pub shifted_moved : (ok : ℕ → Bool) (w v : Working) → Shifted ok w v → Moved ok w v
 shifted_moved ok w _ unchanged = stays
-shifted_moved ok w _ (tells v a t s) = says v a (shifted_moved ok w v s)
+shifted_moved ok w _ (tells v a t n s) = says v a (shifted_moved ok w v s)
 shifted_moved ok w _ (keeps v psi c right k s) = puts v psi c right (shifted_moved ok w v s)
 shifted_moved ok w _ (closes v psi m h old right e p a r o s) =
     hold_moved ok w (stop m.command.timer v) psi h right (says v (Stop m.command.timer) (shifted_moved ok w v s))

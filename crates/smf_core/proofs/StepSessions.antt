@@ -5,11 +5,11 @@ use Rattle.smf_core.proofs.Drafting.{changed_parts}
 use Rattle.smf_core.proofs.InputRows.{Goes, may_change, named_by, worked_goes}
 use Rattle.smf_core.proofs.SessionsKept.{sessions_stand}
 use Rattle.smf_core.proofs.SessionsLaw.{shifted_sessions}
-use Rattle.smf_core.specs.Drafts.{Changed, DoneParts, changed, with_changes}
+use Rattle.smf_core.specs.Drafts.{ChangeLists, changed, with_changes}
 use Rattle.smf_core.specs.Laws.{SessionsStay, names_one}
 use Rattle.smf_core.specs.Sessions.{AreSessions}
 use Rattle.smf_core.specs.State.{SmfState, is_subscriber}
-use Rattle.smf_core.specs.Step.{Follows, Stepped, finished, started, worked}
+use Rattle.smf_core.specs.Step.{Stepped, finished, started, worked}
 use Rattle.smf_core.specs.Work.{Working}
 use Rattle.smf_core.specs.declared.config.Configured.{Configured}
 use Rattle.smf_core.specs.declared.subscriber.Subscriber.{Subscriber}
@@ -30,18 +30,15 @@ sessions_stay smf now supi input are some one =
     finished_sessions smf now supi input (worked input (started smf now supi)) are some one
     (worked_goes (started smf now supi) input)
 
--- what is followed
-pub followed_sessions : (smf : SmfState) (r : Result DoneParts SmfRefusal) (step : Result Stepped SmfRefusal)
-    → Follows smf r step
-    → IfOk step (λ (s : Stepped). AreSessions s.smf)
-    → IfOk r (λ (done : DoneParts). AreSessions (changed done.changes smf))
-followed_sessions smf (Ok done) step e are =
-    subst (λ (t : Result Stepped SmfRefusal). IfOk t (λ (s : Stepped). AreSessions s.smf)) e are
-followed_sessions smf (Err refusal) step e are = tt
+-- what a step leaves
+pub left_sessions : (step : Result Stepped SmfRefusal) (new : Stepped) → step ≡ Ok new → IfOk step (λ (s : Stepped). AreSessions s.smf)
+    → AreSessions new.smf
+left_sessions step new e are = subst (λ (t : Result Stepped SmfRefusal). IfOk t (λ (s : Stepped). AreSessions s.smf)) e are
 
 -- what is taken over
-pub taken_over : (c : Changed) (smf : SmfState) (config : Configured) (pools : PoolsParts) (subscribers : List Subscriber) → AreSessions (changed c smf)
-    → pools ≡ unwrap_or c.pools smf.pools → subscribers ≡ with_changes c.supi c.cells smf.subscribers
+pub taken_over : (c : ChangeLists) (smf : SmfState) (config : Configured) (pools : PoolsParts) (subscribers : List Subscriber)
+    → AreSessions (changed c smf)
+    → pools ≡ unwrap_or c.pools smf.pools → subscribers ≡ with_changes c.cells smf.subscribers
     → AreSessions (record { config = config; pools = pools; subscribers = subscribers })
 taken_over c smf config pools subscribers given e f =
     let are = subst AreSessions (changed_parts c smf) given in
@@ -49,7 +46,7 @@ taken_over c smf config pools subscribers given e f =
     (subst (λ (ss : List Subscriber). AreSessions (record { config = config; pools = unwrap_or c.pools smf.pools; subscribers = ss })) (sym f)
     (record { pools = are.pools; v4 = are.v4; v6 = are.v6; commands = are.commands; whole = are.whole }))
 
-pub is_taken_over : (c : Changed) (smf : SmfState) (pools : PoolsParts) (subscribers : List Subscriber)
-    → pools ≡ unwrap_or c.pools smf.pools → subscribers ≡ with_changes c.supi c.cells smf.subscribers
+pub is_taken_over : (c : ChangeLists) (smf : SmfState) (pools : PoolsParts) (subscribers : List Subscriber)
+    → pools ≡ unwrap_or c.pools smf.pools → subscribers ≡ with_changes c.cells smf.subscribers
     → record { config = smf.config; pools = pools; subscribers = subscribers } ≡ changed c smf
 is_taken_over c smf pools subscribers e f = rw (e, f) (sym (changed_parts c smf))

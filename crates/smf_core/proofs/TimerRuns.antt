@@ -330,7 +330,7 @@ pub shifted_runs : (ok : ℕ → Bool) (w v : Working) (q : ℕ) (r : Running)
     → ((psi : ℕ) → ok psi ≡ true → is_psi psi ≡ true) → is_psi q ≡ true
     → Stands w.supi w.smf → AreSessions w.smf → Runs q r w → Shifted ok w v → Runs q r v
 shifted_runs ok w _ q r named one s are runs unchanged = runs
-shifted_runs ok w _ q r named one s are runs (tells v a t m) =
+shifted_runs ok w _ q r named one s are runs (tells v a t n m) =
     tells_runs q r a v t (shifted_runs ok w v q r named one s are runs m)
 shifted_runs ok w _ q r named one s are runs (keeps v psi c right alike m) =
     let stands = moved_stands ok w v s (shifted_moved ok w v m) in

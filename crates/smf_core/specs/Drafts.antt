@@ -1,17 +1,22 @@
--- A step while it goes on beside what was kept before it, and what it changes of that.
-use Rattle.std.specs.Prelude.{◌≡◌, ℕ, Bool, true, ◌==◌, List, [], ◌∷◌, length, Option, Some, None, if◌then◌else◌}
+-- Steps while they go on beside what was kept before them, and what they change of that.
+use Rattle.std.specs.Prelude.{◌≡◌, ℕ, Bool, true, ◌&&◌, ◌==◌, List, [], ◌∷◌, length, Option, Some, None, if◌then◌else◌}
 use Rattle.std.specs.List.{list_all}
+use Rattle.std.specs.Str.{bytes_eq}
 use Rattle.nas_base.specs.Values.{is_psi}
 use Rattle.nas_elements.specs.declared.address.Address.{Address}
 use Rattle.nas_pools.specs.Pools.{PoolsParts, take_of}
 use Rattle.smf_core.specs.State.{SmfState, put_cell, subscriber_in, with_cell}
 use Rattle.smf_core.specs.Work.{Working, with_pools}
 use Rattle.smf_core.specs.declared.cell.Cell.{Cell}
-use Rattle.smf_core.specs.declared.draft.ChangedCell.{ChangedCell}
-use Rattle.smf_core.specs.declared.outs.SmfOut.{SmfOut}
+use Rattle.smf_core.specs.declared.changes.ChangedCell.{ChangedCell}
 use Rattle.smf_core.specs.declared.subscriber.Subscriber.{Subscriber}
 
--- what all rows speak of, and what was kept before the step
+-- what steps left, and what was kept before them
+pub record DraftState : Type 0 where
+  pub smf : SmfState
+  pub before : SmfState
+
+-- the same within a step: what all rows speak of
 pub record Drafted : Type 0 where
   pub work : Working
   pub before : SmfState
@@ -21,38 +26,34 @@ abbrev pub by : (Working → Working) → Drafted → Drafted
 by row d = record d { work = row d.work }
 
 -- the cells that changed, in order, and the pools, if they changed
-abbrev pub with_cells : List ℕ → List ChangedCell → SmfState → SmfState
-with_cells supi [] smf = smf
-with_cells supi (c ∷ cs) smf = with_cells supi cs (put_cell supi c.psi c.cell smf)
+pub record ChangeLists : Type 0 where
+  pub cells : List ChangedCell
+  pub pools : Option PoolsParts
+
+abbrev pub with_cells : List ChangedCell → SmfState → SmfState
+with_cells [] smf = smf
+with_cells (c ∷ cs) smf = with_cells cs (put_cell c.supi c.psi c.cell smf)
 
 abbrev pub with_changed : Option PoolsParts → SmfState → SmfState
 with_changed None smf = smf
 with_changed (Some pools) smf = record smf { pools = pools }
 
--- the subscribers with the cells that changed
-abbrev pub with_changes : List ℕ → List ChangedCell → List Subscriber → List Subscriber
-with_changes supi [] subscribers = subscribers
-with_changes supi (c ∷ cs) subscribers = with_changes supi cs (with_cell supi c.psi c.cell subscribers)
-
--- the changes of one subscriber's cells and of the pools
-pub record Changed : Type 0 where
-  pub supi : List ℕ
-  pub cells : List ChangedCell
-  pub pools : Option PoolsParts
-
 -- what is kept with the changes
-unfoldable pub changed : Changed → SmfState → SmfState
-changed c smf = with_changed c.pools (with_cells c.supi c.cells smf)
+unfoldable pub changed : ChangeLists → SmfState → SmfState
+changed c smf = with_changed c.pools (with_cells c.cells smf)
 
--- what a step changes, and what goes out
-pub record DoneParts : Type 0 where
-  pub changes : Changed
-  pub outs : List SmfOut
+-- the subscribers with the cells that changed
+abbrev pub with_changes : List ChangedCell → List Subscriber → List Subscriber
+with_changes [] subscribers = subscribers
+with_changes (c ∷ cs) subscribers = with_changes cs (with_cell c.supi c.psi c.cell subscribers)
 
--- the cell of an identity after these changes
-abbrev pub newest : ℕ → List ChangedCell → Cell → Cell
-newest psi [] kept = kept
-newest psi (c ∷ cs) kept = newest psi cs (if c.psi == psi then c.cell else kept)
+-- the cell of a subscriber's identity after these changes
+abbrev pub is_at : List ℕ → ℕ → ChangedCell → Bool
+is_at supi psi c = bytes_eq c.supi supi && c.psi == psi
+
+abbrev pub newest : List ℕ → ℕ → List ChangedCell → Cell → Cell
+newest supi psi [] kept = kept
+newest supi psi (c ∷ cs) kept = newest supi psi cs (if is_at supi psi c then c.cell else kept)
 
 -- an address was taken, or none is free
 abbrev pub TakesFrom : ℕ → Option Address → PoolsParts → PoolsParts → Type 0

@@ -26,6 +26,7 @@ use Rattle.smf_core.specs.declared.inputs.SmfRefusal.{SmfRefusal}
 use Rattle.smf_core.specs.declared.inputs.SmfRefusal.TheVariants as refusals
 use Rattle.smf_core.specs.declared.outs.SmfOut.{SmfOut}
 use Rattle.smf_core.specs.declared.outs.SmfOut.TheVariants as outs
+use Rattle.smf_core.specs.declared.subscriber.Subscriber.{Subscriber}
 
 -- a step leaves this, and says this
 abbrev pub Leaves : Result Stepped SmfRefusal → SmfState → List SmfOut → Type 0
@@ -95,3 +96,32 @@ SessionsStay =
     (smf : SmfState) (now : ℕ) (supi : List ℕ) (input : SmfInput) → AreSessions smf → is_subscriber supi smf ≡ true
     → names_one input ≡ true
     → IfOk (step_of smf now supi input) (λ s. AreSessions s.smf)
+
+-- A message that goes down is of a session that has an identity.
+abbrev pub NamesSession : SmfOut → Type 0
+NamesSession (outs.Down psi frame) = is_psi psi ≡ true
+NamesSession outs.Fence = Unit {0}
+NamesSession (outs.Start id at) = Unit {0}
+NamesSession (outs.Stop id) = Unit {0}
+
+abbrev pub NameSessions : List SmfOut → Type 0
+NameSessions [] = Unit {0}
+NameSessions (out ∷ said) = NamesSession out × NameSessions said
+
+abbrev pub MessagesNameSessions : Type 0
+MessagesNameSessions =
+    (smf : SmfState) (now : ℕ) (supi : List ℕ) (input : SmfInput) (new : Stepped)
+    → AreSessions smf → is_subscriber supi smf ≡ true → names_one input ≡ true
+    → step_of smf now supi input ≡ Ok new
+    → NameSessions new.outs
+
+-- A step keeps whom the SMF has, in their order.
+abbrev pub supis : List Subscriber → List (List ℕ)
+supis [] = []
+supis (s ∷ ss) = s.supi ∷ supis ss
+
+abbrev pub SubscribersStay : Type 0
+SubscribersStay =
+    (smf : SmfState) (now : ℕ) (supi : List ℕ) (input : SmfInput) (new : Stepped)
+    → step_of smf now supi input ≡ Ok new
+    → supis new.smf.subscribers ≡ supis smf.subscribers

@@ -5,7 +5,7 @@ use Rattle.sm_messages.specs.Messages.{spelling}
 use Rattle.smf_core.specs.Asks.{all_released, kept_only, switched}
 use Rattle.smf_core.specs.Commands.{modify, release}
 use Rattle.smf_core.specs.Delivery.{delivered}
-use Rattle.smf_core.specs.Drafts.{DoneParts, changed}
+use Rattle.smf_core.specs.Drafts.{DraftState}
 use Rattle.smf_core.specs.Outcome.{wants_memory}
 use Rattle.smf_core.specs.State.{SmfState}
 use Rattle.smf_core.specs.Timers.{expired}
@@ -59,7 +59,16 @@ abbrev pub Steps : SmfState → SmfState → Result (List SmfOut) SmfRefusal →
 Steps old new (Ok outs) step = step ≡ Ok (record { smf = new; outs = outs })
 Steps old new (Err refusal) step = (new ≡ old) × RefusesAs wants_memory refusal step
 
--- the same for an SMF that its owner keeps, and changes that it takes over
-abbrev pub Follows : SmfState → Result DoneParts SmfRefusal → Result Stepped SmfRefusal → Type 0
-Follows smf (Ok done) step = step ≡ Ok (record { smf = changed done.changes smf; outs = done.outs })
-Follows smf (Err refusal) step = RefusesAs wants_memory refusal step
+-- the same on what steps before it left, which its owner takes over later
+abbrev pub Follows : DraftState → Result (DraftState × List SmfOut) SmfRefusal → Result Stepped SmfRefusal → Type 0
+Follows old (Ok (new, outs)) step = (step ≡ Ok (record { smf = new.smf; outs = outs })) × (new.before ≡ old.before)
+Follows old (Err refusal) step = RefusesAs wants_memory refusal step
+
+-- what a step leaves where it is done, beside what was kept before
+pub record EndedState : Type 0 where
+  pub step : Stepped
+  pub before : SmfState
+
+abbrev pub Ends : SmfState → Result EndedState SmfRefusal → Result Stepped SmfRefusal → Type 0
+Ends before (Ok done) step = (step ≡ Ok done.step) × (done.before ≡ before)
+Ends before (Err refusal) step = RefusesAs wants_memory refusal step

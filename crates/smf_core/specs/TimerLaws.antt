@@ -81,3 +81,38 @@ TimersRunWhileOpen =
     → step_of smf now supi input ≡ Ok new
     → running_after psi new.outs (running_at psi input (running_of (cell_of supi psi smf).held))
     ≡ running_of (cell_of supi psi new.smf).held
+
+-- a timer of a command, of a session that has an identity
+abbrev pub is_of_command : TimerId → Bool
+is_of_command (T3591 psi) = is_psi psi
+is_of_command (T3592 psi) = is_psi psi
+is_of_command T3510 = false
+is_of_command T3516 = false
+is_of_command T3517 = false
+is_of_command T3521 = false
+is_of_command T3522 = false
+is_of_command T3550 = false
+is_of_command T3555 = false
+is_of_command T3560 = false
+is_of_command (T3580 psi) = false
+is_of_command (T3581 psi) = false
+is_of_command (T3582 psi) = false
+
+-- what goes out starts and stops timers of commands alone
+abbrev pub IsOfCommand : SmfOut → Type 0
+IsOfCommand (Down psi frame) = Unit {0}
+IsOfCommand Fence = Unit {0}
+IsOfCommand (Start id at) = is_of_command id ≡ true
+IsOfCommand (Stop id) = is_of_command id ≡ true
+
+abbrev pub AreOfCommands : List SmfOut → Type 0
+AreOfCommands [] = Unit {0}
+AreOfCommands (out ∷ outs) = IsOfCommand out × AreOfCommands outs
+
+-- A step starts and stops timers of commands alone, of sessions that have an identity.
+abbrev pub TimersAreOfCommands : Type 0
+TimersAreOfCommands =
+    (smf : SmfState) (now : ℕ) (supi : List ℕ) (input : SmfInput) (new : Stepped)
+    → AreSessions smf → is_subscriber supi smf ≡ true → names_one input ≡ true
+    → step_of smf now supi input ≡ Ok new
+    → AreOfCommands new.outs

@@ -1,33 +1,47 @@
-//! How a step keeps what it changes until it is done, and the one place where its changes are taken over.
+//! What steps leave, while they go on.
 //!
-//! What was kept before the step stays as it is, and beside it stand the cells that changed and, where an address was
-//! taken or given back, the pools as a copy. So want of memory leaves all as before, and a step copies the cells alone
-//! that it changes. The rows see nothing of this: what they change is seen as what is kept by now.
-ghost use Rattle.std.specs.Prelude.{◌≡◌, true, [], ◌∷◌, ◌++◌, map, unwrap_or, IfOk, OnErr, OnOk};
+//! What was kept before stays as it is until its owner takes the changes over, and beside it stand the cells that
+//! changed and, where an address was taken or given back, the pools as a copy. So want of memory leaves all as before, and
+//! a step copies the cells alone that it changes. The rows see nothing of this: what they change is seen as what is kept
+//! by now.
+ghost use Rattle.std.specs.Prelude.{◌≡◌, true, [], ◌∷◌, ◌++◌, map, unwrap_or, IfOk, OnOk};
 ghost use Rattle.nas_pools.specs.Pools.{freed, has_v6};
-ghost use Rattle.smf_core.specs.Drafts.{Takes, TakesFrom, by, changed, newest, with_changes};
+ghost use Rattle.smf_core.specs.Drafts.{Takes, TakesFrom, by, changed};
 ghost use Rattle.smf_core.specs.Sessions.{AreSessions};
-ghost use Rattle.smf_core.specs.State.{dnns_of, is_subscriber, slices_of, with_cell};
-ghost use Rattle.smf_core.specs.Step.{out_of, started};
+ghost use Rattle.smf_core.specs.State.{dnns_of, is_held, is_subscriber, slices_of, status_of};
+ghost use Rattle.smf_core.specs.Step.{ended, out_of, started};
 ghost use Rattle.smf_core.specs.Work.{act, cell, give, put};
 
 use crate::acts::{Act, Acts};
 use crate::cell::Cell;
+use crate::changes::{ChangedCell, Changes, newest, push_cell};
 use crate::config::Configured;
 use crate::outs::{SmfOut, SmfOuts};
-use crate::smf::{Smf, put_in};
+use crate::smf::Smf;
 use crate::subscriber::Subscriber;
 use nas_base::{Memory, Moment, Psi, Supi};
-use nas_elements::{Address, Dnns, Nssai};
+use nas_elements::{Address, Dnns, Nssai, Status};
 use nas_pools::Pools;
 use std::alloc::Global;
 use std::marker::Model;
 
-/// A cell that changed, under its identity.
+/// What steps leave, of one subscriber or of several: what was kept before them, and what they changed. What holds of the
+/// sessions of every SMF holds of what is kept by now.
 #[derive(Drop)]
-pub struct ChangedCell {
-    pub psi: Psi,
-    pub cell: Cell,
+pub struct Draft<'a> {
+    before: &'a Smf,
+    changes: Changes,
+}
+
+impl<'a> Model for Draft<'a> {
+    ghost use Rattle.smf_core.specs.Drafts.{DraftState, changed};
+    ghost use Rattle.smf_core.specs.Sessions.{AreSessions};
+
+    ghost Value = { DraftState };
+
+    ghost view = { λ d. record { smf = changed d.changes d.before.now; before = d.before.now } };
+
+    ghost invariant = { λ d. AreSessions (changed d.changes d.before.now) };
 }
 
 /// A step of one subscriber while it goes on.
@@ -35,7 +49,7 @@ pub struct ChangedCell {
 pub struct Work<'a> {
     alloc: Global,
     before: &'a Smf,
-    supi: &'a Supi,
+    supi: Supi,
     subscriber: &'a Subscriber,
     moment: Moment,
     cells: Vec<ChangedCell>,
@@ -48,47 +62,115 @@ impl<'a> Model for Work<'a> {
 
     ghost Value = { Drafted };
 
-    ghost view = { λ w. record { work = record { smf = changed (record { supi = w.supi.now; cells = w.cells.items; pools = w.pools }) w.before.now; supi = w.supi.now; moment = w.moment; acts = w.acts }; before = w.before.now } };
+    ghost view = { λ w. record { work = record { smf = changed (record { cells = w.cells.items; pools = w.pools }) w.before.now; supi = w.supi; moment = w.moment; acts = w.acts }; before = w.before.now } };
 
-    ghost invariant = { λ w. IsKept w.supi.now w.subscriber.now w.cells.items w.before.now };
+    ghost invariant = { λ w. IsKept w.supi w.subscriber.now w.cells.items w.before.now };
 }
 
-/// What a step changes, and what goes out. It is taken over by the SMF that the step was followed from.
+/// A step that is done: what was kept before, what is changed of it by now, and what goes out.
 #[derive(Drop)]
-pub struct Done {
-    supi: Supi,
-    cells: Vec<ChangedCell>,
-    pools: Option<Pools>,
+pub struct Ended<'a> {
+    before: &'a Smf,
+    changes: Changes,
     outs: SmfOuts,
 }
 
-impl Model for Done {
-    ghost use Rattle.smf_core.specs.Drafts.{DoneParts};
+impl<'a> Model for Ended<'a> {
+    ghost use Rattle.smf_core.specs.Drafts.{changed};
+    ghost use Rattle.smf_core.specs.Step.{EndedState};
 
-    ghost Value = { DoneParts };
+    ghost Value = { EndedState };
 
-    ghost view = { λ d. record { changes = record { supi = d.supi; cells = d.cells.items; pools = d.pools }; outs = d.outs } };
+    ghost view = { λ e. record { step = record { smf = changed e.changes e.before.now; outs = e.outs }; before = e.before.now } };
 }
 
-// The cell of an identity after these changes.
-fn newest<'b>(psi: Psi, changed: &'b [ChangedCell], kept: &'b Cell) -> &'b Cell
-    ensures { result.now ≡ newest psi changed.now kept.now }
-{
-    match changed {
-        [] => kept,
-        [change, rest @ ..] if change.psi == psi => newest(psi, rest, &change.cell),
-        [_, rest @ ..] => newest(psi, rest, kept),
+impl<'a> Draft<'a> {
+    /// Nothing is changed.
+    pub fn new(alloc: Global, smf: &'a Smf) -> Draft<'a>
+        ensures { result ≡ record { smf = smf.now; before = smf.now } }
+    {
+        smf.stand();
+        Draft {
+            before: smf,
+            changes: Changes {
+                cells: Vec::new(alloc),
+                pools: None,
+            },
+        }
+    }
+
+    /// Whether this is one of the subscribers.
+    #[tactic(auto, using(crate::proofs::Drafting::subscriber_changed))]
+    pub fn has(&self, supi: &Supi) -> bool
+        ensures { result ≡ is_subscriber supi.now self.now.smf }
+    {
+        let before = self.before;
+        before.has(supi)
+    }
+
+    /// Which sessions a subscriber has by now, in any state.
+    #[tactic(auto, unfolding(crate::specs::State::status_of), using(crate::proofs::StatusLaws::told_held, crate::proofs::StatusLaws::told_vacant))]
+    pub fn status(&self, supi: &Supi) -> Status
+        ensures { result ≡ status_of supi.now self.now.smf }
+    {
+        let mut status = Status::empty();
+        for n in 1..16 {
+            let psi = Psi(n);
+            if self.holds(supi, psi) {
+                status.insert(psi);
+            }
+        }
+        status
+    }
+
+    // Whether a subscriber has a session of an identity by now.
+    fn holds(&self, supi: &Supi, psi: Psi) -> bool
+        ensures { result ≡ is_held supi.now self.now.smf psi }
+    {
+        let _number = psi.0;
+        let before = self.before;
+        match before.subscriber(supi) {
+            Some(subscriber) => {
+                subscriber.cells.whole();
+                let changes = &self.changes;
+                changes.names_identities();
+                changes
+                    .by_now(supi, psi, subscriber.cells.at(psi))
+                    .held
+                    .is_some()
+            }
+            None => false,
+        }
+    }
+
+    /// What the steps changed.
+    pub fn changes(self) -> Changes
+        ensures smf { changed result self.entry.before ≡ self.entry.smf }
+        ensures sessions { AreSessions self.entry.smf }
+    {
+        self.changes
+    }
+
+    /// Says what holds of the sessions that are kept by now.
+    pub fn stand(&self)
+        ensures { AreSessions self.now.smf }
+    {
+        let _changes = &self.changes;
     }
 }
 
-// One more cell that changed.
-fn push_cell(cells: &mut Vec<ChangedCell>, psi: Psi, cell: Cell) -> Result<(), Memory>
-    ensures ok { OnOk result (cells.new.items ≡ cells.old.items ++ record { psi = psi; cell = cell } ∷ []) }
-    ensures err { OnErr result (cells.new.items ≡ cells.old.items) }
-{
-    match cells.push(ChangedCell { psi, cell }) {
-        Ok(()) => Ok(()),
-        Err(_) => Err(Memory),
+impl<'a> Ended<'a> {
+    /// What the step leaves for those behind it, and what goes out.
+    pub fn draft(self) -> (Draft<'a>, SmfOuts)
+        requires { AreSessions self.step.smf }
+        ensures smf { result.0 ≡ record { smf = self.entry.step.smf; before = self.entry.before } }
+        ensures outs { result.1 ≡ self.entry.step.outs }
+    {
+        let draft = Draft {
+            before: self.before,
+            changes: self.changes,
+        };
+        (draft, self.outs)
     }
 }
 
@@ -127,21 +209,24 @@ fn give_to(pools: &mut Pools, address: &Address)
 }
 
 impl<'a> Work<'a> {
-    /// A step at its start.
-    pub fn new(alloc: Global, before: &'a Smf, now: Moment, supi: &'a Supi) -> Work<'a>
-        requires { is_subscriber supi.now before.now ≡ true }
-        ensures { result ≡ record { work = started before.now now supi.now; before = before.now } }
+    /// A step at its start, on what steps before it left.
+    #[tactic(auto, using(crate::proofs::Drafting::subscriber_changed))]
+    pub fn new(alloc: Global, draft: Draft<'a>, now: Moment, supi: &Supi) -> Work<'a>
+        requires { is_subscriber supi.now draft.smf ≡ true }
+        ensures { result ≡ record { work = started draft.entry.smf now supi.now; before = draft.entry.before } }
     {
+        let Draft { before, changes } = draft;
+        let Changes { cells, pools } = changes;
         let subscriber = before.subscriber(supi).unwrap();
         subscriber.cells.whole();
         Work {
             alloc,
             before,
-            supi,
+            supi: supi.copy(),
             subscriber,
             moment: now,
-            cells: Vec::new(alloc),
-            pools: None,
+            cells,
+            pools,
             acts: Acts::new(alloc),
         }
     }
@@ -188,7 +273,12 @@ impl<'a> Work<'a> {
     {
         let _number = psi.0;
         let subscriber = self.subscriber;
-        newest(psi, self.cells.as_slice(), subscriber.cells.at(psi))
+        newest(
+            &self.supi,
+            psi,
+            self.cells.as_slice(),
+            subscriber.cells.at(psi),
+        )
     }
 
     /// Another cell takes its place.
@@ -196,7 +286,7 @@ impl<'a> Work<'a> {
         ensures { OnOk result (self.new ≡ by (put psi cell) self.old) }
     {
         let _number = psi.0;
-        push_cell(&mut self.cells, psi, cell)?;
+        push_cell(&mut self.cells, &self.supi, psi, cell)?;
         Ok(())
     }
 
@@ -243,15 +333,17 @@ impl<'a> Work<'a> {
     }
 
     /// The step is done: what it said goes out.
-    pub fn end(self) -> Result<Done, Memory>
-        ensures smf { IfOk result (λ done. changed done.changes self.entry.before ≡ self.entry.work.smf) }
-        ensures outs { IfOk result (λ done. done.outs ≡ map out_of self.entry.work.acts) }
+    pub fn end(self) -> Result<Ended<'a>, Memory>
+        ensures step { IfOk result (λ done. done.step ≡ ended self.entry.work) }
+        ensures before { IfOk result (λ done. done.before ≡ self.entry.before) }
     {
         let outs = outs_of(self.alloc, self.acts)?;
-        Ok(Done {
-            supi: self.supi.copy(),
-            cells: self.cells,
-            pools: self.pools,
+        Ok(Ended {
+            before: self.before,
+            changes: Changes {
+                cells: self.cells,
+                pools: self.pools,
+            },
             outs,
         })
     }
@@ -280,50 +372,5 @@ fn out_of(act: Act) -> SmfOut
         Act::Fence => SmfOut::Fence,
         Act::Start { id, at } => SmfOut::Start { id, at },
         Act::Stop(id) => SmfOut::Stop(id),
-    }
-}
-
-// A cell that changed takes its place.
-fn put_one(subscribers: &mut Vec<Subscriber>, supi: &Supi, change: ChangedCell)
-    ensures { subscribers.new.items ≡ with_cell supi.now change.psi change.cell subscribers.old.items }
-{
-    put_in(subscribers.as_mut_slice(), supi, change.psi, change.cell);
-}
-
-// The cells that changed take their places, in order.
-#[tactic(auto, using(crate::proofs::Drafting::with_changes_put))]
-fn put_cells(subscribers: &mut Vec<Subscriber>, supi: &Supi, cells: Vec<ChangedCell>)
-    ensures { subscribers.new.items ≡ with_changes supi.now cells.items subscribers.old.items }
-{
-    for change in cells {
-        put_one(subscribers, supi, change);
-    }
-}
-
-// The addresses become what they are by now.
-fn take_pools(kept: &mut Pools, changed: Option<Pools>)
-    ensures { kept.new ≡ unwrap_or changed kept.old }
-{
-    if let Some(changed) = changed {
-        *kept = changed;
-    }
-}
-
-impl Done {
-    /// Takes the changes over, and answers what goes out. It takes no memory.
-    pub fn take_over(self, smf: &mut Smf) -> SmfOuts
-        requires { AreSessions (changed self.changes smf.old) }
-        ensures smf { smf.new ≡ changed self.changes smf.old }
-        ensures outs { result ≡ self.outs }
-    {
-        let Done {
-            supi,
-            cells,
-            pools,
-            outs,
-        } = self;
-        put_cells(&mut smf.subscribers, &supi, cells);
-        take_pools(&mut smf.pools, pools);
-        outs
     }
 }

@@ -1,7 +1,7 @@
 //! What holds of every step of an SMF. These functions do nothing: their contracts are the laws.
 ghost use Rattle.nas_qos.specs.Rules.{IsRules};
-ghost use Rattle.smf_core.specs.Laws.{OthersStay, RepeatedRequestsMakeNoSession, SessionsStay, SettlingSessionsTakeNoModification};
-ghost use Rattle.smf_core.specs.TimerLaws.{TimersRunWhileOpen};
+ghost use Rattle.smf_core.specs.Laws.{MessagesNameSessions, OthersStay, RepeatedRequestsMakeNoSession, SessionsStay, SettlingSessionsTakeNoModification, SubscribersStay};
+ghost use Rattle.smf_core.specs.TimerLaws.{TimersAreOfCommands, TimersRunWhileOpen};
 
 use crate::NetSession;
 
@@ -33,6 +33,21 @@ pub fn sessions_stay()
 /// a step, what the step starts and stops leaves it so (TS 24.501 clause 10.3).
 pub fn timers_run_while_open()
     ensures { TimersRunWhileOpen }
+{}
+
+/// A step starts and stops no timers but T3591 and T3592, of sessions with an identity, 1 to 15.
+pub fn timers_are_of_commands()
+    ensures { TimersAreOfCommands }
+{}
+
+/// Each message that goes down is under an identity of a session, 1 to 15.
+pub fn messages_name_sessions()
+    ensures { MessagesNameSessions }
+{}
+
+/// A step keeps whom the SMF has, in their order.
+pub fn subscribers_stay()
+    ensures { SubscribersStay }
 {}
 
 /// A session has at most 16 QoS rules, and these at most 64 packet filters in all.

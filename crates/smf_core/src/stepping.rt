@@ -1,14 +1,12 @@
 //! One step of an SMF.
-ghost use Rattle.std.specs.Prelude.{◌≡◌, true, IfOk};
-ghost use Rattle.smf_core.specs.Drafts.{changed};
+ghost use Rattle.std.specs.Prelude.{◌≡◌, true};
 ghost use Rattle.smf_core.specs.Outcome.{Works};
-ghost use Rattle.smf_core.specs.Sessions.{AreSessions};
 ghost use Rattle.smf_core.specs.State.{is_subscriber};
-ghost use Rattle.smf_core.specs.Step.{Follows, Steps, step_of, worked};
+ghost use Rattle.smf_core.specs.Step.{Ends, Follows, Steps, step_of, worked};
 
 use crate::commands::unrefused;
 use crate::delivery::Carried;
-use crate::draft::{Done, Work};
+use crate::draft::{Draft, Ended, Work};
 use crate::inputs::{SmfInput, SmfRefusal};
 use crate::outs::SmfOuts;
 use crate::smf::Smf;
@@ -37,43 +35,46 @@ pub fn step(
     requires { is_subscriber supi.now smf.old ≡ true }
     ensures { Steps smf.old smf.new result (step_of smf.old now supi.now input.now) }
 {
-    let done = follow(alloc, smf, now, supi, input)?;
-    Ok(done.take_over(smf))
+    let draft = Draft::new(alloc, smf);
+    let (draft, outs) = follow(alloc, draft, now, supi, input)?;
+    draft.changes().take_over(smf);
+    Ok(outs)
 }
 
-/// The step, as `step` says it: what it changes, which is not taken over yet, and what goes out.
+/// The row of an input, as `step` says it, on what steps before it left. Its owner takes the changes over where all is
+/// done. After a refusal nothing of the draft is of use.
 ///
 /// # Errors
 ///
 /// Those of `step`.
-pub fn follow(
+pub fn follow<'a>(
     alloc: Global,
-    smf: &Smf,
+    draft: Draft<'a>,
     now: Moment,
     supi: &Supi,
     input: &SmfInput,
-) -> Result<Done, SmfRefusal>
-    requires { is_subscriber supi.now smf.now ≡ true }
-    ensures step { Follows smf.now result (step_of smf.now now supi.now input.now) }
-    ensures sessions { IfOk result (λ done. AreSessions (changed done.changes smf.now)) }
+) -> Result<(Draft<'a>, SmfOuts), SmfRefusal>
+    requires { is_subscriber supi.now draft.smf ≡ true }
+    ensures { Follows draft.entry result (step_of draft.entry.smf now supi.now input.now) }
 {
-    smf.stand();
+    draft.stand();
     input.names_identities();
-    followed(alloc, smf, now, supi, input)
+    let done = followed(alloc, draft, now, supi, input)?;
+    Ok(done.draft())
 }
 
 // The same, which says nothing of sessions.
-fn followed(
+fn followed<'a>(
     alloc: Global,
-    smf: &Smf,
+    draft: Draft<'a>,
     now: Moment,
     supi: &Supi,
     input: &SmfInput,
-) -> Result<Done, SmfRefusal>
-    requires { is_subscriber supi.now smf.now ≡ true }
-    ensures { Follows smf.now result (step_of smf.now now supi.now input.now) }
+) -> Result<Ended<'a>, SmfRefusal>
+    requires { is_subscriber supi.now draft.smf ≡ true }
+    ensures { Ends draft.entry.before result (step_of draft.entry.smf now supi.now input.now) }
 {
-    let mut work = Work::new(alloc, smf, now, supi);
+    let mut work = Work::new(alloc, draft, now, supi);
     work.by_input(input)?;
     match work.end() {
         Ok(done) => Ok(done),

@@ -9,7 +9,7 @@ use Rattle.ue_mm.specs.Commands.{begun, commanded, is_deregistered, is_only_regi
 use Rattle.ue_mm.specs.Connection.{deregistered, idle}
 use Rattle.ue_mm.specs.Deregistration.{deregister, deregistering, deregistration_expired, deregistration_request, leaving}
 use Rattle.ue_mm.specs.Events.{dropped, expired, leaving_expired, lost, registration_expired, restarted, service_expired}
-use Rattle.ue_mm.specs.Laws.{no_timer, running_in, with_timer}
+use Rattle.ue_mm.specs.Laws.{is_of_mobility, no_timer, running_in, with_timer}
 use Rattle.ue_mm.specs.Registration.{began, register, registration_left}
 use Rattle.ue_mm.specs.Service.{serve}
 use Rattle.ue_mm.specs.State.{registering_word, word_of}
@@ -68,12 +68,12 @@ none_at_command (Deregister switch_off) phase e = none_in_registered phase e
 -- a request to deregister, by the command or again
 deregistering_is_done : (s : Summary) (link : Bool) (p : Deregistration) (w : Work) → IsBegun s link no_timer w
     → IsDone s link (deregistering p w)
-deregistering_is_done s link p w h = request_is_done s link w _ T3521 (Deregistering p) h refl refl
+deregistering_is_done s link p w h = request_is_done s link w _ T3521 (Deregistering p) h refl refl refl
 
 begun_command : (s : Summary) (link : Bool) (command : MmCommand) (w : Work) → IsBegun s link no_timer w → IsDone s link (begun command w)
 unfolding register serve deregister
-begun_command s link (Register kind) w h = request_is_done s link w _ T3510 (Registering (began kind w)) h refl refl
-begun_command s link Service w h = request_is_done s link w _ T3517 (Serving _) h refl refl
+begun_command s link (Register kind) w h = request_is_done s link w _ T3510 (Registering (began kind w)) h refl refl refl
+begun_command s link Service w h = request_is_done s link w _ T3517 (Serving _) h refl refl refl
 begun_command s link (Deregister true) w h =
     deregistered_is_done s link no_timer _ (request_is_quiet s link no_timer w (deregistration_request w.common.config true (leaving w)) h)
 begun_command s link (Deregister false) w h = deregistering_is_done s link (leaving w) w h
@@ -171,19 +171,19 @@ expiry_is_done s link (T3592 psi) w h = begun_is_done s link w h
 
 -- a timer of a procedure that is stopped
 stopped_is_quiet : (s : Summary) (link : Bool) (id : TimerId) (w : Work) → IsBegun s link (with_timer id true no_timer) w
-    → with_timer id false (with_timer id true no_timer) ≡ no_timer → IsQuiet s link no_timer (stop id w)
-stopped_is_quiet s link id w h e = begun_is_quiet s link no_timer (stop id w) (record {
-  said = onto w.acts _ s ∙ ap (summed_act (Tell (Stop id))) h.said ∙ ap summed_from e;
+    → with_timer id false (with_timer id true no_timer) ≡ no_timer → is_of_mobility id ≡ true → IsQuiet s link no_timer (stop id w)
+stopped_is_quiet s link id w h e own = begun_is_quiet s link no_timer (stop id w) (record {
+  said = onto w.acts _ s ∙ ap (summed_act (Tell (Stop id))) h.said ∙ rw (own, e) refl;
   linked = h.linked;
 })
 
 loss : (s : Summary) (link : Bool) (phase : Phase) (w : Work) → w.phase ≡ phase → IsBegun s link (running_in phase) w
     → IsDone s link (lost phase w)
 loss s link Deregistered w e h = in_phase s link Deregistered w e h
-loss s link (Registering p) w e h = left_is_done s link p.kind (stop T3510 w) (stopped_is_quiet s link T3510 w h refl)
+loss s link (Registering p) w e h = left_is_done s link p.kind (stop T3510 w) (stopped_is_quiet s link T3510 w h refl refl)
 loss s link Registered w e h = idle_is_done s link w (begun_is_quiet s link (running_in w.phase) w
     (record { said = h.said ∙ ap (λ (p : Phase). summed_from (running_in p)) (sym e); linked = h.linked }))
-loss s link (Serving p) w e h = unserved_is_done s link (stop T3517 w) (stopped_is_quiet s link T3517 w h refl)
+loss s link (Serving p) w e h = unserved_is_done s link (stop T3517 w) (stopped_is_quiet s link T3517 w h refl refl)
 loss s link (Deregistering p) w e h = deregistered_is_done s link _ w (begun_is_quiet s link _ w h)
 
 pub loss_is_done : (s : Summary) (link : Bool) (w : Work) → IsBegun s link (running_in w.phase) w → IsDone s link (dropped w)

@@ -6,7 +6,7 @@ use Rattle.nas_base.specs.declared.count.Dir.TheVariants.{Up}
 use Rattle.nas_security.specs.declared.sends.Pass.{Pass}
 use Rattle.mm_entity.specs.Framing.{is_too_long, is_unsent}
 use Rattle.ue_mm.specs.Framing.{framed, framed_all, framed_plain, framed_protected}
-use Rattle.ue_mm.specs.Laws.{HaveOwner, Running, with_timer}
+use Rattle.ue_mm.specs.Laws.{HaveOwner, Running, is_of_mobility, with_timer}
 use Rattle.ue_mm.specs.declared.acts.Act.{Act}
 use Rattle.ue_mm.specs.declared.acts.Act.TheVariants.{Say, Tell}
 use Rattle.ue_mm.specs.declared.acts.Protection.TheVariants.{Plain, IntegrityProtected, Ciphered, CipheredWithNewContext}
@@ -15,7 +15,7 @@ use Rattle.ue_mm.specs.declared.outs.UeOut.{UeOut}
 use Rattle.ue_mm.specs.declared.outs.UeOut.TheVariants.{Send, Passed, Took, ToSession, NotForwarded, Abandon, Clear, Keep, Start, Stop}
 use Rattle.ue_mm.specs.declared.procedures.Phase.{Phase}
 use Rattle.nas_base.proofs.Branching.{per_holds, when_holds}
-use Rattle.ue_mm.proofs.Summary.{IsOneAtMost, IsSound, Sent, Summary, one_more, outs_onto, summed, summed_act, summed_out, summed_outs}
+use Rattle.ue_mm.proofs.Summary.{IsOneAtMost, IsSound, Sent, Summary, one_more, outs_onto, summed, summed_act, summed_out, summed_outs, unless_other}
 use Rattle.ue_mm.proofs.Summary.Sent.{none, one, more}
 
 -- no more messages, and one of one is the same
@@ -132,12 +132,30 @@ told_goes_out fresh octets pass s other f h =
     let out = (out_goes_out (Send fresh octets pass) s other f h).smaller in
     record { smaller = record { running = out.running; started = out.started; sent = any_more _ } }
 
+-- a timer, which counts as too much where it isn't one of 5GMM
+within_unless : (own : Bool) (s other : Sent) → IsWithin s other → IsWithin s (unless_other own other)
+within_unless true s other h = h
+within_unless false s other h = any_more s
+
+timer_goes_out : (own : Bool) (out : UeOut) (s other : Summary) (f : Framed) → (summed_out out other).sent ≡ other.sent → GoesOut s other f
+    → GoesOut s (record (summed_out out other) { sent = unless_other own other.sent }) (record f { outs = f.outs ++ out ∷ [] })
+timer_goes_out own out s other f same h =
+    let smaller = (out_goes_out out s other f h).smaller in
+    record {
+      smaller = record {
+        running = smaller.running;
+        started = smaller.started;
+        sent = within_unless own (summed_outs (f.outs ++ out ∷ []) s).sent other.sent
+            (subst (λ (n : Sent). IsWithin (summed_outs (f.outs ++ out ∷ []) s).sent n) same smaller.sent);
+      };
+    }
+
 act_goes_out : (supi : List ℕ) (act : Act) (s other : Summary) (f : Framed) → GoesOut s other f
     → GoesOut s (summed_act act other) (framed supi act f)
 unfolding framed
 act_goes_out supi (Tell (Send fresh octets pass)) s other f h = told_goes_out fresh octets pass s other f h
-act_goes_out supi (Tell (Start id at)) s other f h = out_goes_out (Start id at) s other f h
-act_goes_out supi (Tell (Stop id)) s other f h = out_goes_out (Stop id) s other f h
+act_goes_out supi (Tell (Start id at)) s other f h = timer_goes_out (is_of_mobility id) (Start id at) s other f refl h
+act_goes_out supi (Tell (Stop id)) s other f h = timer_goes_out (is_of_mobility id) (Stop id) s other f refl h
 act_goes_out supi (Tell (Passed pass)) s other f h = out_goes_out (Passed pass) s other f h
 act_goes_out supi (Tell (Took context)) s other f h = out_goes_out (Took context) s other f h
 act_goes_out supi (Tell (ToSession octets)) s other f h = out_goes_out (ToSession octets) s other f h

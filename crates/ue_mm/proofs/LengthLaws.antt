@@ -1,12 +1,12 @@
 -- No message that goes out of a step is too long.
-use Rattle.std.proofs.Common.{◌≡◌, refl, subst, ℕ, Bool, List, [], ◌∷◌, ◌++◌, None, Result, Ok, Err}
+use Rattle.std.proofs.Common.{◌≡◌, refl, subst, ℕ, Bool, true, false, List, [], ◌∷◌, ◌++◌, None, Result, Ok, Err}
 use Rattle.nas_base.proofs.Branching.{per_holds, when_holds}
 use Rattle.nas_base.specs.declared.count.Dir.TheVariants.{Up}
 use Rattle.mm_messages.specs.Messages.{spelling}
 use Rattle.mm_entity.proofs.FramingLaws.{message_fits, next_frame_fits}
 use Rattle.mm_entity.specs.Framing.{is_too_long, is_unsent}
 use Rattle.ue_mm.specs.Framing.{framed, framed_all, framed_plain, framed_protected}
-use Rattle.ue_mm.specs.Laws.{AllFit, Fits, MessagesFit, running_at, running_in}
+use Rattle.ue_mm.specs.Laws.{AllFit, Fits, MessagesFit, is_of_mobility, running_at, running_in}
 use Rattle.ue_mm.specs.State.{MmState}
 use Rattle.ue_mm.specs.Step.{ended, finished, started, step_of, worked}
 use Rattle.ue_mm.specs.declared.acts.Act.{Act}
@@ -20,7 +20,7 @@ use Rattle.ue_mm.specs.declared.outs.UeOut.TheVariants.{Send, Passed, Took, ToSe
 use Rattle.ue_mm.specs.declared.work.Work.{Work}
 use Rattle.ue_mm.proofs.EventRows.{IsWorked}
 use Rattle.ue_mm.proofs.RowLaws.{input_is_worked}
-use Rattle.ue_mm.proofs.Summary.{IsOneAtMost, Summary, summed, summed_act, summed_from}
+use Rattle.ue_mm.proofs.Summary.{IsOneAtMost, Summary, summed, summed_act, summed_from, unless_other}
 use Rattle.ue_mm.proofs.Summary.Sent.{more}
 use Rattle.ue_mm.proofs.Summary.{Sent}
 
@@ -34,11 +34,15 @@ ActsFit [] = Unit {0}
 ActsFit (act ∷ acts) = ActFits act × ActsFit acts
 
 -- too many messages stay too many
+unless_more : (own : Bool) (n : Sent) → n ≡ more → unless_other own n ≡ more
+unless_more true n e = e
+unless_more false n e = refl
+
 more_by : (act : Act) (s : Summary) → s.sent ≡ more → (summed_act act s).sent ≡ more
 more_by (Say fresh protection message) s e = rw e refl
 more_by (Tell (Send fresh octets pass)) s e = refl
-more_by (Tell (Start id at)) s e = e
-more_by (Tell (Stop id)) s e = e
+more_by (Tell (Start id at)) s e = unless_more (is_of_mobility id) s.sent e
+more_by (Tell (Stop id)) s e = unless_more (is_of_mobility id) s.sent e
 more_by (Tell (Passed pass)) s e = e
 more_by (Tell (Took context)) s e = e
 more_by (Tell (ToSession octets)) s e = e
@@ -47,7 +51,7 @@ more_by (Tell Abandon) s e = e
 more_by (Tell Clear) s e = e
 more_by (Tell (Keep held)) s e = e
 
-more_stay : (acts : List Act) (s : Summary) → s.sent ≡ more → (summed acts s).sent ≡ more
+pub more_stay : (acts : List Act) (s : Summary) → s.sent ≡ more → (summed acts s).sent ≡ more
 more_stay [] s e = e
 more_stay (act ∷ acts) s e = more_stay acts (summed_act act s) (more_by act s e)
 

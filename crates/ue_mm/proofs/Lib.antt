@@ -1,3 +1,4 @@
+pub mod CarryLaws
 pub mod DeliveryRows
 pub mod EventRows
 pub mod Fits
@@ -11,5 +12,6 @@ pub mod RowTools
 pub mod StepLaws
 pub mod StopLaws
 pub mod Summary
+pub mod TimerLaws
 pub mod ToldRows
 pub mod UncheckedLaws

@@ -3,7 +3,7 @@ use Rattle.std.proofs.Common.{◌≡◌, refl, sym, ap, subst, inr, Bool, true, 
 use Rattle.nas_timers.specs.declared.timer_id.TimerId.{TimerId}
 use Rattle.mm_messages.specs.declared.message.Mm.{Mm}
 use Rattle.ue_mm.specs.Connection.{connected, deregistered, erased, idle}
-use Rattle.ue_mm.specs.Laws.{HaveOwner, Running, no_timer, running_in, with_timer}
+use Rattle.ue_mm.specs.Laws.{HaveOwner, Running, is_of_mobility, no_timer, running_in, with_timer}
 use Rattle.ue_mm.specs.State.{timer_of}
 use Rattle.ue_mm.specs.Work.{answer, request, say, start}
 use Rattle.ue_mm.specs.declared.acts.Protection.{Protection}
@@ -83,11 +83,11 @@ request_is_quiet s link running w message h =
 
 -- a request whose timer is started
 pub request_is_done : (s : Summary) (link : Bool) (w : Work) (message : Mm) (id : TimerId) (phase : Phase)
-    → IsBegun s link no_timer w → with_timer id true no_timer ≡ running_in phase → timer_of phase ≡ Some id
+    → IsBegun s link no_timer w → with_timer id true no_timer ≡ running_in phase → timer_of phase ≡ Some id → is_of_mobility id ≡ true
     → IsDone s link (start id (record (connected (request message w)) { phase = phase }))
-request_is_done s link w message id phase h runs owns =
+request_is_done s link w message id phase h runs owns own =
     done_of s link _ (record { running = with_timer id true no_timer; started = id ∷ []; sent = one (not w.common.connected) })
-    (simp (onto, h.said))
+    (simp (onto, h.said, own))
     (record { runs = runs; owned = inr owns; few = fresh_is_unlinked w.common.connected link h.linked })
 
 -- a connection that ends

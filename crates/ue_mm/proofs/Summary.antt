@@ -2,7 +2,7 @@
 use Rattle.std.proofs.Common.{◌≡◌, refl, sym, subst, ◌∙◌, Bool, true, false, List, [], ◌∷◌, ◌++◌, append_assoc}
 use Rattle.std.proofs.lemmas.List.{append-nil}
 use Rattle.nas_timers.specs.declared.timer_id.TimerId.{TimerId}
-use Rattle.ue_mm.specs.Laws.{AreOneAtMost, HaveOwner, Running, running_after, running_in, sent, started_timers, with_timer}
+use Rattle.ue_mm.specs.Laws.{AreOneAtMost, HaveOwner, Running, is_of_mobility, running_after, running_in, sent, started_timers, with_timer}
 use Rattle.ue_mm.specs.declared.acts.Act.{Act}
 use Rattle.ue_mm.specs.declared.acts.Act.TheVariants.{Say, Tell}
 use Rattle.ue_mm.specs.declared.outs.UeOut.{UeOut}
@@ -41,10 +41,16 @@ abbrev pub summed_outs : List UeOut → Summary → Summary
 summed_outs [] s = s
 summed_outs (out ∷ outs) s = summed_outs outs (summed_out out s)
 
--- A message is said, and never told: to tell one counts as too many.
+-- A message is said, and never told: to tell one counts as too many, and so does a timer that isn't one of 5GMM.
+abbrev pub unless_other : Bool → Sent → Sent
+unless_other true sent = sent
+unless_other false sent = more
+
 abbrev pub summed_act : Act → Summary → Summary
 summed_act (Say fresh protection message) s = record s { sent = one_more fresh s.sent }
 summed_act (Tell (Send fresh octets pass)) s = record s { sent = more }
+summed_act (Tell (Start id at)) s = record (summed_out (Start id at) s) { sent = unless_other (is_of_mobility id) s.sent }
+summed_act (Tell (Stop id)) s = record (summed_out (Stop id) s) { sent = unless_other (is_of_mobility id) s.sent }
 summed_act (Tell out) s = summed_out out s
 
 abbrev pub summed : List Act → Summary → Summary

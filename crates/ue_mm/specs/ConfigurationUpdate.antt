@@ -1,4 +1,4 @@
--- A new 5G-GUTI without a registration (TS 24.501 clause 5.4.4).
+-- A new 5G-GUTI without a registration: the generic UE configuration update procedure (TS 24.501 clause 5.4.4).
 use Rattle.std.specs.Prelude.{ℕ, Bool, false, ◌%◌, ◌==◌, Option}
 use Rattle.nas_base.specs.Branches.{per, when◌then◌else◌}
 use Rattle.nas_elements.specs.declared.guti.Guti.{Guti}

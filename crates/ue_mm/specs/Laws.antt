@@ -186,6 +186,27 @@ abbrev pub TimersHaveOwners : MmState → UeInput → Result Stepped StepRefusal
 TimersHaveOwners s input (Ok new) = HaveOwners s input new
 TimersHaveOwners s input (Err refusal) = Unit {0}
 
+-- The timers of 5GMM at a handset (TS 24.501 table 10.2.1). A step starts and stops these alone, and none of a PDU session.
+abbrev pub is_of_mobility : TimerId → Bool
+is_of_mobility T3510 = true
+is_of_mobility T3516 = true
+is_of_mobility T3517 = true
+is_of_mobility T3521 = true
+is_of_mobility _ = false
+
+abbrev pub TimesMobility : UeOut → Type 0
+TimesMobility (Start id at) = is_of_mobility id ≡ true
+TimesMobility (Stop id) = is_of_mobility id ≡ true
+TimesMobility _ = Unit {0}
+
+abbrev pub AllTimeMobility : List UeOut → Type 0
+AllTimeMobility [] = Unit {0}
+AllTimeMobility (out ∷ outs) = TimesMobility out × AllTimeMobility outs
+
+abbrev pub TimesMobilityAlone : Result Stepped StepRefusal → Type 0
+TimesMobilityAlone (Ok new) = AllTimeMobility new.outs
+TimesMobilityAlone (Err refusal) = Unit {0}
+
 -- the messages that are sent, in order: whether each is fresh
 abbrev pub sent : List UeOut → List Bool
 sent [] = []
@@ -202,6 +223,16 @@ AreOneAtMost connected (first ∷ second ∷ messages) = ⊥
 abbrev pub SendsOneAtMost : MmState → Result Stepped StepRefusal → Type 0
 SendsOneAtMost s (Ok new) = AreOneAtMost s.common.connected (sent new.outs)
 SendsOneAtMost s (Err refusal) = Unit {0}
+
+-- A message of a session that is carried is sent, or isn't: nothing else goes out, and what is open stays.
+abbrev pub AreSends : List UeOut → Type 0
+AreSends [] = Unit {0}
+AreSends (Send fresh octets pass ∷ outs) = AreSends outs
+AreSends (_ ∷ outs) = ⊥
+
+abbrev pub SendsAlone : MmState → Result Stepped StepRefusal → Type 0
+SendsAlone s (Ok new) = AreSends new.outs × (new.state.phase ≡ s.phase)
+SendsAlone s (Err refusal) = ⊥
 
 -- a message that goes out has 4,096 octets at most, and so each that a step sends (clause 9.1.1)
 abbrev pub Fits : UeOut → Type 0

@@ -1,12 +1,12 @@
 //! What holds of every state and of all that comes in. These functions do nothing: their contracts are the laws.
-ghost use Rattle.ue_mm.specs.Laws.{MessagesFit, OpensWherePassing, PlainDoByKind, PlainSecuresNothing, SendsOneAtMost, TimersHaveOwners, UncheckedDoNothing};
+ghost use Rattle.ue_mm.specs.Laws.{MessagesFit, OpensWherePassing, PlainDoByKind, PlainSecuresNothing, SendsAlone, SendsOneAtMost, TimersHaveOwners, TimesMobilityAlone, UncheckedDoNothing};
 ghost use Rattle.ue_mm.specs.State.{state_of};
 ghost use Rattle.ue_mm.specs.Step.{step_of};
-ghost use Rattle.ue_mm.specs.declared.inputs.UeInput.TheVariants.{Delivered};
+ghost use Rattle.ue_mm.specs.declared.inputs.UeInput.TheVariants.{Carry, Delivered};
 
 use crate::{UeInput, UeMm};
-use nas_base::Moment;
-use nas_elements::Status;
+use nas_base::{Moment, Octets, Psi};
+use nas_elements::{Dnn, Status};
 
 /// A message that a handset takes as passed, passes (`nas_security`): the current context, or one that the pending key makes with
 /// algorithms that a handset supports, has the challenge that is told, and under that the octets are the frame of a message at the
@@ -40,6 +40,11 @@ pub fn timers_have_owners(state: &UeMm, now: Moment, held: &Status, input: &UeIn
     ensures { TimersHaveOwners (state_of state.now) input.now (step_of (state_of state.now) now held.now input.now) }
 {}
 
+/// A step starts and stops timers of 5GMM alone, and none of a PDU session: T3510, T3516, T3517 and T3521 (TS 24.501 table 10.2.1).
+pub fn step_times_mobility_alone(state: &UeMm, now: Moment, held: &Status, input: &UeInput)
+    ensures { TimesMobilityAlone (step_of (state_of state.now) now held.now input.now) }
+{}
+
 /// A step sends one message at most, and one that is the first of its connection only where there was no connection.
 pub fn one_message_at_most(state: &UeMm, now: Moment, held: &Status, input: &UeInput)
     ensures { SendsOneAtMost (state_of state.now) (step_of (state_of state.now) now held.now input.now) }
@@ -48,4 +53,17 @@ pub fn one_message_at_most(state: &UeMm, now: Moment, held: &Status, input: &UeI
 /// Every message that a step sends has at most 4,096 octets; one whose frame would have more isn't sent (TS 24.501 clause 9.1.1).
 pub fn messages_have_4096_octets_at_most(state: &UeMm, now: Moment, held: &Status, input: &UeInput)
     ensures { MessagesFit (step_of (state_of state.now) now held.now input.now) }
+{}
+
+/// To carry a message of a PDU session is never refused: the message is sent, or isn't, nothing else goes out, and the procedure that is
+/// open stays (TS 24.501 clause 5.4.5.2).
+pub fn carrying_sends_alone(
+    state: &UeMm,
+    now: Moment,
+    held: &Status,
+    psi: Psi,
+    dnn: &Option<Dnn>,
+    frame: &Octets,
+)
+    ensures { SendsAlone (state_of state.now) (step_of (state_of state.now) now held.now (Carry psi dnn.now frame.now)) }
 {}

@@ -33,9 +33,9 @@ pub use crate::common::{Common, Pending, Stored};
 pub use crate::config::HandsetConfig;
 pub use crate::inputs::{MmCommand, StepRefusal, UeInput};
 pub use crate::laws::{
-    messages_have_4096_octets_at_most, one_message_at_most, opened_where_passing,
-    plain_octets_by_kind, plain_octets_secure_nothing, timers_have_owners,
-    unchecked_octets_change_nothing,
+    carrying_sends_alone, messages_have_4096_octets_at_most, one_message_at_most,
+    opened_where_passing, plain_octets_by_kind, plain_octets_secure_nothing,
+    step_times_mobility_alone, timers_have_owners, unchecked_octets_change_nothing,
 };
 pub use crate::outs::{UeOut, UeOuts};
 pub use crate::procedures::{Deregistration, Phase, Registration, Service};

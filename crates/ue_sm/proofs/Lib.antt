@@ -7,6 +7,8 @@ pub mod Identities
 pub mod Moves
 pub mod Places
 pub mod Requests
+pub mod SessionCount
+pub mod StatusLemmas
 pub mod Staying
 pub mod StepLaws
 pub mod Stops
@@ -14,3 +16,4 @@ pub mod TimerCommands
 pub mod TimerLaw
 pub mod TimerRows
 pub mod TimerSteps
+pub mod TimersNamed

@@ -154,7 +154,7 @@ pub record EvenBehind (ending : Ending) (psi n : ℕ) (r : Running) (w told : Wo
   pub even : running_after psi told.outs r ≡ running_in (cell_of psi s)
   pub later : n < psi → cell_of psi s ≡ cell_of psi w.state
 
-leaves_fifteen : (ending : Ending) (n : ℕ) (s : SmState) → length s.cells ≡ 15
+pub leaves_fifteen : (ending : Ending) (n : ℕ) (s : SmState) → length s.cells ≡ 15
     → length (leave_one ending n s).cells ≡ 15
 leaves_fifteen ending n s fifteen =
     when_holds (λ (x : SmState). length x.cells ≡ 15) (concerns ending n (cell_of n s))

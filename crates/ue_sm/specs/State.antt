@@ -1,6 +1,7 @@
 -- What a handset keeps of its PDU sessions between two events (TS 24.501 clause 6.1.3.2).
-use Rattle.std.specs.Prelude.{◌≡◌, ◌≤◌, ℕ, zero, suc, ◌-◌, List, [], ◌∷◌, ◌==◌, length, slice_index_or, slice_set, Option, Some, None, if◌then◌else◌}
+use Rattle.std.specs.Prelude.{◌≡◌, ◌≤◌, ℕ, zero, suc, ◌-◌, Bool, List, [], ◌∷◌, ◌==◌, length, map, slice_index_or, slice_set, Option, Some, None, if◌then◌else◌}
 use Rattle.nas_timers.specs.Durations.{DurationParts}
+use Rattle.ue_sm.specs.Cells.{is_held}
 use Rattle.ue_sm.specs.declared.cells.Cell.{Cell}
 use Rattle.ue_sm.specs.declared.cells.Cell.TheVariants.{Inactive}
 
@@ -21,6 +22,10 @@ cell_of psi s = slice_index_or s.cells (psi - 1) Inactive
 
 abbrev pub put_cell : ℕ → Cell → SmState → SmState
 put_cell psi cell s = record s { cells = slice_set s.cells (psi - 1) cell }
+
+-- the sessions that are Active, to be modified or to be released, as a set (clause 9.11.3.44)
+abbrev pub status_of : SmState → List Bool
+status_of s = map is_held s.cells
 
 -- what is done for each of the first n identities, in order, and for all fifteen
 unfoldable pub each : {A : Type 0} → (ℕ → A → A) → ℕ → A → A

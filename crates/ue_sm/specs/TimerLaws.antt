@@ -92,3 +92,32 @@ abbrev pub TimersRunWhileOpen : SmState → ℕ → SmInput → Type 0
 TimersRunWhileOpen s now input =
     (psi : ℕ) (new : Stepped) → is_psi psi ≡ true → step_of s now input ≡ Ok new
     → running_after psi new.outs (running_at psi input (running_in (cell_of psi s))) ≡ running_in (cell_of psi new.state)
+
+-- The timers of transactions, each of a session 1 to 15.
+abbrev pub is_of_session : TimerId → Bool
+is_of_session (T3580 psi) = is_psi psi
+is_of_session (T3581 psi) = is_psi psi
+is_of_session (T3582 psi) = is_psi psi
+is_of_session T3510 = false
+is_of_session T3516 = false
+is_of_session T3517 = false
+is_of_session T3521 = false
+is_of_session T3522 = false
+is_of_session T3550 = false
+is_of_session T3555 = false
+is_of_session T3560 = false
+is_of_session (T3591 psi) = false
+is_of_session (T3592 psi) = false
+
+abbrev pub TimesSession : SmOut → Type 0
+TimesSession (Carry psi dnn frame) = Unit {0}
+TimesSession (Start id at) = is_of_session id ≡ true
+TimesSession (Stop id) = is_of_session id ≡ true
+
+abbrev pub AllTimeSessions : List SmOut → Type 0
+AllTimeSessions [] = Unit {0}
+AllTimeSessions (out ∷ outs) = TimesSession out × AllTimeSessions outs
+
+-- A step starts and stops these timers alone.
+abbrev pub TimesSessionsAlone : SmState → ℕ → SmInput → Type 0
+TimesSessionsAlone s now input = (new : Stepped) → step_of s now input ≡ Ok new → AllTimeSessions new.outs

@@ -2,7 +2,7 @@
 ghost use Rattle.std.specs.Prelude.{◌≡◌, true};
 ghost use Rattle.nas_timers.specs.Names.{is_name};
 ghost use Rattle.ue_sm.specs.Laws.{AnswersAgain, ChangesOneSession, IgnoresWhileReleasing, UsesNewIdentities};
-ghost use Rattle.ue_sm.specs.TimerLaws.{TimersRunWhileOpen, names_session, names_sessions};
+ghost use Rattle.ue_sm.specs.TimerLaws.{TimersRunWhileOpen, TimesSessionsAlone, names_session, names_sessions};
 
 use crate::{SmCommand, SmInput, UeSm};
 use nas_base::Moment;
@@ -35,6 +35,13 @@ pub fn timers_run_while_open(state: &UeSm, now: Moment, input: &SmInput)
     ensures { TimersRunWhileOpen state.now now input.now }
 {
     state.are_fifteen();
+    sessions_are_named(input);
+}
+
+/// A step starts and stops timers of transactions alone: T3580, T3581 and T3582 of the sessions 1 to 15 (TS 24.501 table 10.3.1).
+pub fn step_times_sessions_alone(state: &UeSm, now: Moment, input: &SmInput)
+    ensures { TimesSessionsAlone state.now now input.now }
+{
     sessions_are_named(input);
 }
 

@@ -6,5 +6,5 @@ use Rattle.nas_network.proofs.network.Network.follow_command.Goals as goal
 
 pub returns-in-Ok-clause-owned : goal.returns-in-Ok-clause-owned
 returns-in-Ok-clause-owned c =
-    followed_command c.args.rand.now c.args.command.now c.args.self.now c.in-Ok.followed.0 c.in-Ok.followed.1
+    followed_command c.args.rand.now c.args.command.now c.args.self.now c.in-Ok.followed.0 c.in-Ok.followed.1 c.names_identity.ensures
     (subst (λ (n : NetworkState). HaveOwners n) c.self.view_is c.self.invariant) c.in-Ok.ensures

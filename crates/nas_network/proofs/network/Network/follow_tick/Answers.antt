@@ -1,7 +1,7 @@
 use Rattle.std.proofs.Common.{subst}
 use Rattle.nas_network.specs.Owners.{HaveOwners}
 use Rattle.nas_network.specs.State.{NetworkState}
-use Rattle.nas_network.proofs.Owners.{followed_tick}
+use Rattle.nas_network.proofs.TickOwners.{followed_tick}
 use Rattle.nas_network.proofs.network.Network.follow_tick.Goals as goal
 
 pub returns-in-Ok-clause-owned : goal.returns-in-Ok-clause-owned

@@ -7,10 +7,10 @@ pub returns-in-Some : goal.returns-in-Some
 returns-in-Some c =
     c.has_v6.ensures
     ∙ ap has_v6
-    (sym (pools_some c.self.inside.supi.now c.self.inside.cells.items c.self.inside.pools c.self.inside.before.now c.in-Some.pools c.in-Some.is) ∙ ap (λ v. v.work.smf.pools) c.self.view_is)
+    (sym (pools_some c.self.inside.cells.items c.self.inside.pools c.self.inside.before.now c.in-Some.pools c.in-Some.is) ∙ ap (λ v. v.work.smf.pools) c.self.view_is)
 
 pub returns-in-None : goal.returns-in-None
 returns-in-None c =
     c.has_v6-in-None.ensures
     ∙ ap has_v6
-    (ap (λ s. s.pools) c.before-in-None.view_is ∙ sym (pools_none c.self.inside.supi.now c.self.inside.cells.items c.self.inside.pools c.self.inside.before.now c.in-None.is) ∙ ap (λ v. v.work.smf.pools) c.self.view_is)
+    (ap (λ s. s.pools) c.before-in-None.view_is ∙ sym (pools_none c.self.inside.cells.items c.self.inside.pools c.self.inside.before.now c.in-None.is) ∙ ap (λ v. v.work.smf.pools) c.self.view_is)

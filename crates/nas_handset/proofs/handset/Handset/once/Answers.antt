@@ -1,0 +1,10 @@
+use Rattle.std.proofs.Common.{subst}
+use Rattle.nas_handset.specs.Owners.{HaveOwners}
+use Rattle.nas_handset.specs.State.{HandsetState}
+use Rattle.nas_handset.proofs.Owners.{followed_once}
+use Rattle.nas_handset.proofs.handset.Handset.once.Goals as goal
+
+pub returns-in-Ok-clause-owned : goal.returns-in-Ok-clause-owned
+returns-in-Ok-clause-owned c =
+    followed_once c.args.input c.args.self.now c.in-Ok.followed.0 c.in-Ok.followed.1 c.requires
+    (subst (λ (h : HandsetState). HaveOwners h) c.self.view_is c.self.invariant) c.in-Ok.ensures
