@@ -2,7 +2,7 @@
 
 use crate::handset_inputs::{Input, Word};
 use crate::handset_texts::{delivery_text, refusal_text, sends_text, view_text};
-use nas_base::Moment;
+use nas_base::{Moment, Psi};
 use nas_handset::{Handset, UeCommand};
 use probe_words::{Refusal, push};
 use session_words::handset_session_text;
@@ -29,13 +29,19 @@ impl Course {
     /// What comes of the next word, behind the other answers.
     pub fn go(&mut self, alloc: Global, word: Word) -> Result<(), Refusal> {
         let answer = match word {
-            Word::Session(psi) => handset_session_text(alloc, &self.handset.session(psi))?,
+            Word::Session(psi) => self.session(alloc, psi)?,
             Word::Input(input) => self.step(alloc, input)?,
         };
         if !self.told.is_empty() {
             push(&mut self.told, " ")?;
         }
         push(&mut self.told, answer.as_str())
+    }
+
+    // A session.
+    fn session(&self, alloc: Global, psi: Psi) -> Result<String, Refusal> {
+        let seen = self.handset.session(psi);
+        handset_session_text(alloc, psi, seen.state, seen.session)
     }
 
     // What comes of a step, and what can be seen then.

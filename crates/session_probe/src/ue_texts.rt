@@ -86,6 +86,6 @@ fn add_session(alloc: Global, state: &UeSm, psi: Psi, line: &mut String) -> Resu
     if !line.is_empty() {
         push(line, "|")?;
     }
-    let text = handset_session_text(alloc, &seen)?;
+    let text = handset_session_text(alloc, psi, seen.state, seen.session)?;
     push(line, text.as_str())
 }

@@ -2,13 +2,13 @@
 //! AMBR are octets as in their elements, or `none`; the rules are as in probe_words, with a point between their words. A handset's
 //! session is PSI:STATE, and PSI:STATE:SESSION where it is there; a network's is PSI:STATE:SENT:SESSION.
 
+use nas_base::{Psi, SmWord};
 use nas_elements::{Address, Dnn, Slice};
 use nas_timers::TimerId;
 use probe_words::{Refusal, none, push, rules_text, text, word};
 use sm_messages::Session;
 use smf_core::NetSession;
 use std::alloc::Global;
-use ue_sm::UeSession;
 
 /// The text, and a mark behind it, behind the line.
 pub fn add(line: &mut String, text: String, mark: &str) -> Result<(), Refusal> {
@@ -63,10 +63,14 @@ fn slice_or_none(alloc: Global, slice: &Option<Slice>) -> Result<String, Refusal
 }
 
 /// A handset's session.
-pub fn handset_session_text(alloc: Global, seen: &UeSession<'_>) -> Result<String, Refusal> {
-    let (psi, state) = (seen.psi, seen.state);
+pub fn handset_session_text(
+    alloc: Global,
+    psi: Psi,
+    state: SmWord,
+    session: Option<&Session>,
+) -> Result<String, Refusal> {
     let mut line = word(format!(in alloc; "{}:{state:?}", psi.0))?;
-    if let Some(session) = seen.session {
+    if let Some(session) = session {
         push(&mut line, ":")?;
         push(&mut line, session_text(alloc, session)?.as_str())?;
     }
