@@ -14,19 +14,21 @@ use Rattle.smf_core.specs.TimerLaws.{Running, is_of_command, no_timer, with_time
 use Rattle.nas_network.specs.Owners.{commands_of}
 use Rattle.nas_network.specs.Ticks.{is_of_smf}
 
--- one of two of them is another's
+-- the two of a session
+abbrev both_of : Bool → Bool → Running
+both_of one other = record { t3591 = one; t3592 = other }
+
+-- one of them is another's
 first_by : (b runs : Bool) (d e f : Option ℕ) → is_some f ≡ runs
-    → (record { t3591 = is_some (cond b f d); t3592 = is_some e } : Running)
-    ≡ chosen b (record { t3591 = runs; t3592 = is_some e }) (record { t3591 = is_some d; t3592 = is_some e })
+    → both_of (is_some (cond b f d)) (is_some e) ≡ chosen b (both_of runs (is_some e)) (both_of (is_some d) (is_some e))
 unfolding chosen
-first_by true runs d e f is = ap (λ (x : Bool). (record { t3591 = x; t3592 = is_some e } : Running)) is
+first_by true runs d e f is = ap (λ (x : Bool). both_of x (is_some e)) is
 first_by false runs d e f is = refl
 
 second_by : (b runs : Bool) (d e f : Option ℕ) → is_some f ≡ runs
-    → (record { t3591 = is_some d; t3592 = is_some (cond b f e) } : Running)
-    ≡ chosen b (record { t3591 = is_some d; t3592 = runs }) (record { t3591 = is_some d; t3592 = is_some e })
+    → both_of (is_some d) (is_some (cond b f e)) ≡ chosen b (both_of (is_some d) runs) (both_of (is_some d) (is_some e))
 unfolding chosen
-second_by true runs d e f is = ap (λ (x : Bool). (record { t3591 = is_some d; t3592 = x } : Running)) is
+second_by true runs d e f is = ap (λ (x : Bool). both_of (is_some d) x) is
 second_by false runs d e f is = refl
 
 -- what starting and stopping one timer does to the two of a session

@@ -22,26 +22,25 @@ use Rattle.nas_network.specs.Turns.{Turn, begun}
 use Rattle.nas_network.specs.declared.command.NetDelivery.{NetDelivery}
 use Rattle.nas_network.proofs.Expiries.{amf_expired_owned, smf_expired_owned}
 
+-- a timer that is due has a deadline
+due_some : (moment : ℕ) (d : Option ℕ) → per d false (λ (at : ℕ). nat_le at moment) ≡ true → is_some d ≡ false → ⊥
+unfolding per
+due_some moment None due none = cc due
+due_some moment (Some at) due none = cc none
+
 -- a timer of a command that is due runs, so that it is one of an identity
+identity_by : (psi : ℕ) (b : Bool) → is_psi psi ≡ b → (is_psi psi ≡ false → ⊥) → is_psi psi ≡ true
+identity_by psi true is not = is
+identity_by psi false is not = absurd (not is)
+
 due_names : (id : TimerId) (supi : List ℕ) (moment : ℕ) (ss : List SubscriberTimers) → AreNamed ss → is_of_smf id ≡ true
     → per (deadline_for supi id ss) false (λ (at : ℕ). nat_le at moment) ≡ true → names_one (smf_inputs.Expired id) ≡ true
-unfolding per
-due_names (T3591 psi) supi moment ss named of due = by_psi (is_psi psi) refl where
-  by_psi : (b : Bool) → is_psi psi ≡ b → is_psi psi ≡ true
-  by_psi true is = is
-  by_psi false not = absurd (by_deadline (deadline_for supi (T3591 psi) ss) due (ap (λ (r : Running). r.t3591) (named supi psi not))) where
-    by_deadline : (d : Option ℕ) → per d false (λ (at : ℕ). nat_le at moment) ≡ true → is_some d ≡ false → ⊥
-    unfolding per
-    by_deadline None due none = cc due
-    by_deadline (Some at) due none = cc none
-due_names (T3592 psi) supi moment ss named of due = by_psi (is_psi psi) refl where
-  by_psi : (b : Bool) → is_psi psi ≡ b → is_psi psi ≡ true
-  by_psi true is = is
-  by_psi false not = absurd (by_deadline (deadline_for supi (T3592 psi) ss) due (ap (λ (r : Running). r.t3592) (named supi psi not))) where
-    by_deadline : (d : Option ℕ) → per d false (λ (at : ℕ). nat_le at moment) ≡ true → is_some d ≡ false → ⊥
-    unfolding per
-    by_deadline None due none = cc due
-    by_deadline (Some at) due none = cc none
+due_names (T3591 psi) supi moment ss named of due =
+    identity_by psi (is_psi psi) refl
+    (λ not. due_some moment (deadline_for supi (T3591 psi) ss) due (ap (λ (r : Running). r.t3591) (named supi psi not)))
+due_names (T3592 psi) supi moment ss named of due =
+    identity_by psi (is_psi psi) refl
+    (λ not. due_some moment (deadline_for supi (T3592 psi) ss) due (ap (λ (r : Running). r.t3592) (named supi psi not)))
 due_names T3510 supi moment ss named of due = absurd (cc of)
 due_names T3516 supi moment ss named of due = absurd (cc of)
 due_names T3517 supi moment ss named of due = absurd (cc of)

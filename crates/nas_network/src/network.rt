@@ -8,6 +8,7 @@ ghost use Rattle.nas_network.specs.Owners.{HaveOwners, IsNoExpiry, all_keep_few}
 ghost use Rattle.nas_network.specs.State.{first};
 ghost use Rattle.nas_network.specs.Ticks.{ticked};
 ghost use Rattle.nas_network.specs.Turns.{begun, is_unrefused, smf_stepped, turned};
+ghost use Rattle.smf_core.specs.Sessions.{AreSessions};
 ghost use Rattle.smf_core.specs.State.{is_subscriber, session_of};
 
 use crate::beginning::{amf_config, home_list, smf_config};
@@ -450,7 +451,8 @@ fn parts(
     alloc: Global,
     config: &NetConfig,
 ) -> Result<(Amf, Home, Smf, Vec<SubscriberTimers>), Memory>
-    ensures { IfOk result (λ parts. record { amf = parts.0; home = parts.1; smf = parts.2; timers = parts.3.items; moment = 0 } ≡ first config.now) }
+    ensures values { IfOk result (λ parts. record { amf = parts.0; home = parts.1; smf = parts.2; timers = parts.3.items; moment = 0 } ≡ first config.now) }
+    ensures sessions { IfOk result (λ parts. AreSessions parts.2) }
 {
     let subscribers = config.subscribers.as_slice();
     let amf = Amf::new(alloc, &amf_config(alloc, config)?)?;

@@ -81,6 +81,7 @@ impl<'a> Turning<'a> {
     /// # Errors
     ///
     /// `Memory`.
+    #[tactic(auto, using(crate::proofs::TakingOver::changed_last))]
     pub fn changed(self, change: TimerChange) -> Result<Turning<'a>, Memory>
         ensures { IfOk result (λ turning. turning ≡ on (changed_by change self.entry.turn) self.entry) }
     {

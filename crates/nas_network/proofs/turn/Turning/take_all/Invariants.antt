@@ -1,8 +1,0 @@
-use Rattle.std.proofs.Common.{◌≡◌}
-use Rattle.nas_network.specs.Turns.{all_taken}
-use Rattle.nas_network.proofs.turn.Turning.take_all.Given as goal
-
--- what is left to be taken onto where the turn stands gives the whole
-abbrev pub invariant-loop-out : goal.invariant-loop-out
-invariant-loop-out l =
-    record l.self { turn = all_taken l.out-iterator.rest.items l.self.turn } ≡ record l.initial.self { turn = all_taken l.fn.outs l.initial.self.turn }
