@@ -113,7 +113,7 @@ other_stops psi (T3592 n) ts other = absurd (cc other)
 
 -- of what is no identity none of them is
 apart : (n psi : ℕ) → is_psi n ≡ true → is_psi psi ≡ false → (n == psi) ≡ false
-apart n psi yes not = grind (arith, nat_tests, yes, not)
+apart n psi is other = grind (arith, nat_tests, is, other)
 
 pub not_named : (psi : ℕ) (id : TimerId) (runs : Bool) → is_of_command id ≡ true → is_psi psi ≡ false → with_timer psi id runs no_timer ≡ no_timer
 unfolding chosen

@@ -7,7 +7,7 @@ use Rattle.nas_timers.specs.Timers.{started, stopped}
 use Rattle.nas_timers.specs.declared.timer_id.TimerId.{TimerId}
 use Rattle.amf_core.specs.declared.inputs.AmfInput.TheVariants.{Down, Fence, Sessions}
 use Rattle.amf_laws.proofs.Records.{are_equal, equals_itself}
-use Rattle.smf_core.specs.Laws.{names_one, supis}
+use Rattle.smf_core.specs.Laws.{concerns, names_one, supis}
 use Rattle.smf_core.specs.Sessions.{AreSessions}
 use Rattle.smf_core.specs.State.{SmfState, cell_of, is_subscriber, status_of}
 use Rattle.smf_core.specs.Step.{Stepped, step_of}
@@ -149,10 +149,13 @@ record SmfLawful (supi : List ℕ) (input : SmfInput) (smf : SmfState) (s : Step
 
 others_apart : (m : SmfState) (now : ℕ) (supi : List ℕ) (input : SmfInput) → names_one input ≡ true
     → IfOk (step_of m now supi input) (λ (x : Stepped). (other : List ℕ) (q : ℕ) → bytes_eq supi other ≡ false → cell_of other q x.smf ≡ cell_of other q m)
-others_apart m now supi input named = first_of (step_of m now supi input) (smf_others.others_stay m now supi input named) where
-  first_of : {A B : Stepped → Type 0} (r : Result Stepped SmfRefusal) → IfOk r (λ (x : Stepped). A x × B x) → IfOk r A
-  first_of (Ok x) both = both.0
-  first_of (Err e) both = tt
+others_apart m now supi input named = by_step (step_of m now supi input) (smf_others.others_stay m now supi input named) where
+  by_step : (r : Result Stepped SmfRefusal)
+      → IfOk r (λ (x : Stepped). ((other : List ℕ) (q : ℕ) → bytes_eq supi other ≡ false → cell_of other q x.smf ≡ cell_of other q m)
+      × ((q : ℕ) → is_psi q ≡ true → concerns input q ≡ false → cell_of supi q x.smf ≡ cell_of supi q m))
+      → IfOk r (λ (x : Stepped). (other : List ℕ) (q : ℕ) → bytes_eq supi other ≡ false → cell_of other q x.smf ≡ cell_of other q m)
+  by_step (Ok x) both = both.0
+  by_step (Err e) both = tt
 
 smf_lawful : (supi : List ℕ) (input : SmfInput) (t : Turn) (s : Stepped) → smf_stepped supi input t ≡ Ok s → ArePlaced t.network
     → is_subscriber supi t.network.smf ≡ true → names_one input ≡ true → SmfLawful supi input t.network.smf s

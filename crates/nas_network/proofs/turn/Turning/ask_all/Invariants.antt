@@ -1,7 +1,7 @@
 use Rattle.std.proofs.Common.{◌≡◌}
 use Rattle.nas_network.specs.TakingOver.{on}
 use Rattle.nas_network.specs.Turns.{all_asked}
-use Rattle.nas_network.proofs.steps.Turning.ask_all.Given as goal
+use Rattle.nas_network.proofs.turn.Turning.ask_all.Given as goal
 
 -- what is left to be asked onto where the turn stands gives the whole
 abbrev pub invariant-loop-ask : goal.invariant-loop-ask

@@ -1,7 +1,7 @@
 use Rattle.std.proofs.Common.{◌≡◌, ◌++◌}
 use Rattle.nas_network.specs.TakingOver.{on}
 use Rattle.nas_network.specs.Turns.{all_taken, asks_in}
-use Rattle.nas_network.proofs.amf_steps.Turning.take_all.Given as goal
+use Rattle.nas_network.proofs.turn.Turning.take_all.Given as goal
 
 -- what is left to be taken onto where the turn stands gives the whole, and so does what it asks behind what was asked so far
 abbrev pub invariant-loop-out : goal.invariant-loop-out

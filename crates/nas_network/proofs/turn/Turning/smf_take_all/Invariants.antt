@@ -1,7 +1,7 @@
 use Rattle.std.proofs.Common.{◌≡◌}
 use Rattle.nas_network.specs.TakingOver.{on}
 use Rattle.nas_network.specs.Turns.{all_smf_taken}
-use Rattle.nas_network.proofs.smf_steps.Turning.smf_take_all.Given as goal
+use Rattle.nas_network.proofs.turn.Turning.smf_take_all.Given as goal
 
 -- what is left to be taken onto where the turn stands gives the whole
 abbrev pub invariant-loop-out : goal.invariant-loop-out
