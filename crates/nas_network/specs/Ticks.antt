@@ -51,11 +51,11 @@ unfoldable pub due_within : ℕ → ℕ → List SubscriberTimers → List DueTi
 due_within zero now ss = []
 due_within (suc n) now ss = per (first_due now ss) [] (λ (d : DueTimer). d ∷ due_within n now (stopped_for d.supi d.id ss))
 
-abbrev pub names : ℕ
-names = 64 * NAMES
+abbrev pub all_names : ℕ
+all_names = 64 * NAMES
 
 abbrev pub due_list : ℕ → List SubscriberTimers → List DueTimer
-due_list now ss = due_within names now ss
+due_list now ss = due_within all_names now ss
 
 -- One of them: where its deadline is still there and has come, it is stopped, and the step of its expiry is taken. An expiry before it
 -- may have stopped it, or started it anew.
