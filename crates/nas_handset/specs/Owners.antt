@@ -12,7 +12,7 @@ use Rattle.nas_handset.specs.State.{HandsetState}
 use Rattle.nas_handset.specs.declared.command.UeCommand.{UeCommand}
 use Rattle.nas_handset.specs.declared.command.UeCommand.TheVariants.{Register, Service, Deregister, Establish, Modify, Release}
 
--- those of 5GMM's three that have a deadline, and those of a session's three
+-- those of T3510, T3517 and T3521 that have a deadline, and those of a session's T3580, T3581 and T3582
 abbrev pub running_of : List timers.Running → Running
 running_of ts = record {
   t3510 = is_some (deadline_of T3510 ts);

@@ -1,4 +1,5 @@
--- The timers that are due at a moment.
+-- The timers that are due at a moment, and their expiries (TS 24.501 clauses 10.2 and 10.3). That they fire by deadline and name is this
+-- program's own order.
 use Rattle.std.specs.Prelude.{ℕ, zero, suc, Bool, false, nat_le, max, List, [], ◌∷◌}
 use Rattle.nas_base.specs.Branches.{per, when◌then◌else◌}
 use Rattle.nas_timers.specs.Timers.{Running, deadline_of, due_of, stopped}
@@ -19,7 +20,8 @@ due_within (suc n) now ts = per (due_of now ts) [] (λ (id : TimerId). id ∷ du
 abbrev pub due_list : ℕ → List Running → List TimerId
 due_list now ts = due_within NAMES now ts
 
--- whose timer it is that expires: T3580, T3581 and T3582 are the sessions' (TS 24.501 table 10.3.1), every other is 5GMM's
+-- Whose timer it is that expires: T3580, T3581 and T3582 are the sessions' (TS 24.501 table 10.3.1). Every other goes to 5GMM, whose are
+-- T3510, T3516, T3517 and T3521 (table 10.2.1), and which passes over those of networks.
 abbrev pub expired : TimerId → Turn → Turn
 expired (T3580 psi) t = sessions_turned (sessions.Expired (T3580 psi)) t
 expired (T3581 psi) t = sessions_turned (sessions.Expired (T3581 psi)) t

@@ -1,4 +1,6 @@
--- What becomes of what goes out of the steps of a handset's mobility management (5GMM) and of its sessions (5GSM).
+-- What becomes of what goes out of the steps of a handset's mobility management (5GMM) and of its sessions (5GSM). Messages of sessions
+-- travel in UL and DL NAS TRANSPORT (TS 24.501 clauses 5.4.5.2 and 5.4.5.3). That the identities of transactions begin anew under a new
+-- context is this program's own rule.
 use Rattle.std.specs.Prelude.{ℕ, Bool, List, [], ◌∷◌, ◌++◌, Option, Some, None, Result, Ok, Err}
 use Rattle.nas_timers.specs.Timers.{started, stopped}
 use Rattle.nas_timers.specs.declared.timer_id.TimerId.{TimerId}

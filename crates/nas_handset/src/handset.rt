@@ -118,7 +118,8 @@ impl Handset {
         Ok(delivery)
     }
 
-    /// The moment is told, and every timer that is due fires, once. A moment before the last one counts as that one.
+    /// The moment is told, and every timer that is due fires, at most once: not where an expiry before it stopped it. A moment before the
+    /// last one counts as that one.
     ///
     /// # Errors
     ///

@@ -7,7 +7,7 @@ ghost use Rattle.nas_handset.specs.Ticks.{ticked};
 use crate::{Handset, UeCommand};
 use nas_base::Moment;
 
-/// Every message that is sent at octets that reached the handset has at most 4,096 octets (TS 24.501 clause 9.1.1).
+/// Every message that is sent at octets that reached the handset has at most 4,096 octets.
 pub fn delivery_sends_4096_octets_at_most(handset: &Handset, octets: &[u8])
     ensures { AreShort (delivered octets.now handset.now).sends }
 {}

@@ -3,7 +3,7 @@ use Rattle.std.proofs.Common.{◌≡◌, ℕ, zero, suc, ◌+◌, ◌-◌, ◌<�
 use Rattle.std.proofs.lemmas.Grind.{common_steps}
 use Rattle.nas_base.specs.Branches.{per}
 use Rattle.nas_network.specs.State.{SubscriberTimers, stopped_for}
-use Rattle.nas_network.specs.Ticks.{DueTimer, due_list, due_within, first_due, names}
+use Rattle.nas_network.specs.Ticks.{DueTimer, due_list, due_within, first_due, all_names}
 
 none_within : (n now : ℕ) (ss : List SubscriberTimers) → first_due now ss ≡ None → due_within n now ss ≡ []
 unfolding per due_within
@@ -16,11 +16,11 @@ unfolding per due_within
 some_within n now ss d some = rw some refl
 
 -- where the found ones are put before the others, one more is found
-pub due_found : (c now : ℕ) (ss : List SubscriberTimers) (d : DueTimer) (list whole : List DueTimer) → c < names → first_due now ss ≡ Some d →
-    list ++ due_within (names - c) now ss ≡ whole → (list ++ d ∷ []) ++ due_within (names - (c + 1)) now (stopped_for d.supi d.id ss) ≡ whole
+pub due_found : (c now : ℕ) (ss : List SubscriberTimers) (d : DueTimer) (list whole : List DueTimer) → c < all_names → first_due now ss ≡ Some d →
+    list ++ due_within (all_names - c) now ss ≡ whole → (list ++ d ∷ []) ++ due_within (all_names - (c + 1)) now (stopped_for d.supi d.id ss) ≡ whole
 due_found c now ss d list whole within some all =
-    let one : names - c ≡ suc (names - (c + 1)) = omega arith in
-    let next : due_within (names - c) now ss ≡ d ∷ due_within (names - (c + 1)) now (stopped_for d.supi d.id ss) = rw one (some_within (names - (c + 1)) now ss d some) in
+    let one : all_names - c ≡ suc (all_names - (c + 1)) = omega arith in
+    let next : due_within (all_names - c) now ss ≡ d ∷ due_within (all_names - (c + 1)) now (stopped_for d.supi d.id ss) = rw one (some_within (all_names - (c + 1)) now ss d some) in
     grind (arith, common_steps)
 
 pub due_ended : (n now : ℕ) (ss : List SubscriberTimers) (list whole : List DueTimer) → first_due now ss ≡ None →
@@ -34,4 +34,4 @@ due_all (suc n) now ss list whole none all = absurd (omega arith)
 
 -- where none is due the list is empty
 pub none_due : (now : ℕ) (ss : List SubscriberTimers) → first_due now ss ≡ None → due_list now ss ≡ []
-none_due now ss none = none_within names now ss none
+none_due now ss none = none_within all_names now ss none

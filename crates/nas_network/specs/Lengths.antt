@@ -1,4 +1,4 @@
--- How long messages are (TS 24.501 clause 9.1.1).
+-- How long messages are: 4,096 octets at most, which is the most that this program sends or reads.
 use Rattle.std.specs.Prelude.{Result, Ok, Err}
 use Rattle.mm_entity.specs.Lengths.{AreShort}
 use Rattle.nas_network.specs.Turns.{Turn}

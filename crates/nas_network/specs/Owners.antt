@@ -17,7 +17,7 @@ use Rattle.nas_network.specs.State.{NetworkState, SubscriberTimers, timers_of}
 use Rattle.nas_network.specs.declared.command.NetCommand.{NetCommand}
 use Rattle.nas_network.specs.declared.command.NetCommand.TheVariants.{Authenticate, Deregister, Update, Modify, Release}
 
--- those of the four that have a deadline
+-- those of T3560, T3550, T3555 and T3522 that have a deadline
 abbrev pub running_of : List timers.Running → Running
 running_of ts = record {
   t3560 = is_some (deadline_of T3560 ts);
@@ -57,7 +57,7 @@ abbrev pub FitCommands : SmfState → List SubscriberTimers → Type 0
 FitCommands s ts =
     (supi : List ℕ) (psi : ℕ) → is_psi psi ≡ true → commands_for ts supi psi ≡ smf.running_of (cell_of supi psi s).held
 
--- and none runs but of an identity
+-- no T3591 and no T3592 runs of a number that is no identity of a session
 abbrev pub AreNamed : List SubscriberTimers → Type 0
 AreNamed ts = (supi : List ℕ) (psi : ℕ) → is_psi psi ≡ false → commands_for ts supi psi ≡ smf.no_timer
 

@@ -1,4 +1,4 @@
--- A network: its AMF, its home network, its SMF, the timers that run, and the moment that it was told last.
+-- A network: its AMF, its home network, its SMF, the timers that run (TS 24.501 clause 10), and the moment that it was told last.
 use Rattle.std.specs.Prelude.{ℕ, Bool, true, false, List, [], ◌∷◌, map, Option, if◌then◌else◌}
 use Rattle.std.specs.Str.{bytes_eq}
 use Rattle.nas_timers.specs.Timers.{Running, deadline_of, started, stopped}

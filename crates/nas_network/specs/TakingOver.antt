@@ -10,7 +10,7 @@ use Rattle.amf_core.specs.Step.{Stepped}
 use Rattle.amf_core.specs.declared.inputs.AmfRefusal.{AmfRefusal}
 use Rattle.amf_core.specs.declared.outs.SmfCall.{SmfCall}
 use Rattle.smf_core.specs.Drafts as smf
-use Rattle.smf_core.specs.Outcome as smf_outcome
+use Rattle.smf_core.specs.Outcome as smf_refusals
 use Rattle.smf_core.specs.Step as smf_step
 use Rattle.smf_core.specs.declared.inputs.SmfRefusal.{SmfRefusal}
 use Rattle.nas_network.specs.Network.{answered, wants_memory}
@@ -79,7 +79,7 @@ TurnsOn old rand (Err refusal) step = RefusesAs amf.wants_memory refusal step
 abbrev pub SmfStepsOn : TurningState → List ℕ → List ℕ → Result TurningState SmfRefusal → Result smf_step.Stepped SmfRefusal → Type 0
 SmfStepsOn old rand supi (Ok new) (Ok s) = new ≡ on (smf_onto rand supi (Ok s) old.turn) old
 SmfStepsOn old rand supi (Ok new) (Err refusal) = ⊥
-SmfStepsOn old rand supi (Err refusal) step = RefusesAs smf_outcome.wants_memory refusal step
+SmfStepsOn old rand supi (Err refusal) step = RefusesAs smf_refusals.wants_memory refusal step
 
 -- what a command comes to, where the network takes it over
 abbrev pub FollowsCommand : NetworkState → Result (TurnChanges × NetDelivery) NetRefusal → Result Turn NetRefusal → Type 0

@@ -1,4 +1,5 @@
--- The timers that are due at a moment.
+-- The timers that are due at a moment, and their expiries (TS 24.501 clauses 10.2 and 10.3). That they fire by deadline, name and the
+-- subscriber's place is this program's own order.
 use Rattle.std.specs.Prelude.{ℕ, zero, suc, ◌*◌, Bool, true, false, nat_lt, nat_le, max, ◌==◌, ◌&&◌, ◌||◌, List, [], ◌∷◌, Option, Some, None, if◌then◌else◌}
 use Rattle.nas_base.specs.Branches.{per, when◌then◌else◌}
 use Rattle.nas_timers.specs.declared.timer_id.TheConstants.{NAMES}
@@ -17,7 +18,7 @@ pub record DueTimer : Type 0 where
   pub id : TimerId
   pub at : ℕ
 
--- of one subscriber's timers the one that is due first
+-- one of a subscriber's timers with its deadline, and of all of them the one that is due first
 abbrev pub due_named : TimerId → SubscriberTimers → Option DueTimer
 due_named id s = per (deadline_of id s.timers) None (λ (at : ℕ). Some (record { supi = s.supi; id = id; at = at }))
 
@@ -50,11 +51,11 @@ unfoldable pub due_within : ℕ → ℕ → List SubscriberTimers → List DueTi
 due_within zero now ss = []
 due_within (suc n) now ss = per (first_due now ss) [] (λ (d : DueTimer). d ∷ due_within n now (stopped_for d.supi d.id ss))
 
-abbrev pub names : ℕ
-names = 64 * NAMES
+abbrev pub all_names : ℕ
+all_names = 64 * NAMES
 
 abbrev pub due_list : ℕ → List SubscriberTimers → List DueTimer
-due_list now ss = due_within names now ss
+due_list now ss = due_within all_names now ss
 
 -- One of them: where its deadline is still there and has come, it is stopped, and the step of its expiry is taken. An expiry before it
 -- may have stopped it, or started it anew.
@@ -67,7 +68,8 @@ is_due d n = is_due_of d n.moment n.timers
 abbrev pub without : DueTimer → NetworkState → NetworkState
 without d n = record n { timers = stopped_for d.supi d.id n.timers }
 
--- those of the SMF are T3591 and T3592 of a session; all others are the AMF's
+-- Whose timer it is: T3591 and T3592 of a session are the SMF's (TS 24.501 table 10.3.2). Every other goes to the AMF, whose are T3522,
+-- T3550, T3555 and T3560 (table 10.2.2), and which passes over those of handsets.
 abbrev pub is_of_smf : TimerId → Bool
 is_of_smf (T3591 psi) = true
 is_of_smf (T3592 psi) = true
@@ -97,7 +99,7 @@ abbrev pub all_fired : List ℕ → List DueTimer → Turn → Turn
 all_fired rand [] t = t
 all_fired rand (d ∷ ds) t = all_fired rand ds (fired rand d t)
 
--- A tick: a moment before the last one counts as that one. Each challenge that starts in it has this RAND.
+-- A tick: a moment before the last one counts as that one. Its steps are handed this RAND, as every step is.
 abbrev pub told : ℕ → NetworkState → NetworkState
 told moment n = record n { moment = moment }
 

@@ -5,7 +5,8 @@
 --                                                      |  --4--> timers
 --                                                      |  --5--> which sessions there are    -> AMF
 --
--- In the steps of 3 and 5 the AMF asks the SMF nothing, so that there is no more to come.
+-- In the steps of 3 and 5 the AMF asks the SMF nothing, so that there is no more to come. Messages of sessions travel in UL and DL NAS
+-- TRANSPORT (TS 24.501 clauses 5.4.5.2 and 5.4.5.3); which sessions there are is the status of clause 9.11.3.44.
 use Rattle.std.specs.Prelude.{ℕ, Bool, true, false, List, [], ◌∷◌, ◌++◌, Option, Some, None, Result, Ok, Err}
 use Rattle.nas_base.specs.Branches.{when◌then◌else◌}
 use Rattle.nas_security.specs.declared.sends.Pass.{Pass}

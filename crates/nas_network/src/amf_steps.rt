@@ -11,7 +11,7 @@ use nas_base::Memory;
 use std::alloc::Global;
 
 impl<'a> Turning<'a> {
-    /// The step of the AMF at an input, with what goes out of it. What it asks of the SMF is answered.
+    /// The step of the AMF at an input, with what goes out of it. What it asks of the SMF is handed back.
     pub fn step(
         self,
         alloc: Global,
@@ -72,7 +72,7 @@ impl<'a> Turning<'a> {
         }
     }
 
-    // What goes out of a step, one after the other, but for what it asks, which is answered.
+    // What goes out of a step, one after the other, but for what it asks, which is handed back.
     fn take_all(&mut self, alloc: Global, outs: AmfOuts) -> Result<Asks, Memory>
         ensures turn { OnOk result (self.new ≡ on (all_taken outs self.old.turn) self.old) }
         ensures asks { IfOk result (λ asks. asks ≡ asks_in outs) }

@@ -35,7 +35,8 @@ pub enum NetCommand {
 pub enum NetRefusal {
     /// No subscriber has this SUPI.
     UnknownSupi,
-    /// The command doesn't begin in this state, or a procedure is open; one on a session also where the subscriber isn't registered.
+    /// A command of the AMF's doesn't begin in this state, or a procedure is open. For a command on a session: the subscriber isn't
+    /// registered, or the network de-registers it.
     WrongState { state: AmfWord },
     /// No sequence number is left behind this one.
     SqnSpent { sqn: u64 },

@@ -7,7 +7,7 @@ ghost use Rattle.nas_network.specs.Ticks.{ticked};
 use crate::{NetCommand, Network};
 use nas_base::Moment;
 
-/// Every message that is sent at octets that came up a link has at most 4,096 octets (TS 24.501 clause 9.1.1).
+/// Every message that is sent at octets that came up a link has at most 4,096 octets.
 pub fn delivery_sends_4096_octets_at_most(
     network: &Network,
     rand: &[u8; 16],

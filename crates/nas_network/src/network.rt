@@ -147,8 +147,8 @@ impl Network {
         Ok(delivery)
     }
 
-    /// The moment is told, and every timer that is due fires, once. A moment before the last one counts as that one. Each challenge that
-    /// starts has this RAND.
+    /// The moment is told, and every timer that is due fires, at most once: not where an expiry before it stopped it. A moment before the
+    /// last one counts as that one. Each challenge that starts has this RAND.
     ///
     /// # Errors
     ///
