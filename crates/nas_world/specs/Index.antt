@@ -6,6 +6,9 @@ use Rattle.indexmap.specs.IndexSet.{IndexSet, contains}
 use Rattle.nas_base.specs.Branches.{per}
 use Rattle.nas_security.specs.declared.sends.Pass.{Pass}
 use Rattle.nas_security.specs.declared.sends.Send.{Send}
+use Rattle.nas_world.specs.Honest.{sent_to}
+use Rattle.nas_world.specs.declared.logs.SentLog.{SentLog}
+use Rattle.nas_world.specs.declared.passes.End.{End}
 use Rattle.nas_world.specs.declared.sent.SentKey.{SentKey}
 
 -- a key that a message is found by
@@ -25,9 +28,15 @@ has_parts key own octets =
 abbrev pub has_key : SentKey → Send → Bool
 has_key key s = per s.pass false (λ (own : Pass). has_parts key own s.octets)
 
--- an index finds exactly the keys of the messages of a log
+-- an index finds exactly the keys of the messages of a log, or of logs
 pub record Says {S : Type 0} (eq : SentKey → SentKey → Bool) (index : IndexSet SentKey S) (log : List Send) : Type 0 where
   pub says : (key : SentKey) → contains eq index key ≡ list_any (has_key key) log
+
+abbrev pub has_key_to : End → SentKey → SentLog → Bool
+has_key_to end key log = list_any (has_key key) (sent_to end log)
+
+pub record SaysAll {S : Type 0} (eq : SentKey → SentKey → Bool) (index : IndexSet SentKey S) (end : End) (logs : List SentLog) : Type 0 where
+  pub says : (key : SentKey) → contains eq index key ≡ list_any (has_key_to end key) logs
 
 -- an index finds what it found before, and the key of one message more
 pub record Notes {S : Type 0} (eq : SentKey → SentKey → Bool) (pass : Pass) (octets : List ℕ) (old new : IndexSet SentKey S) : Type 0 where

@@ -2,9 +2,13 @@ pub mod Agree
 pub mod Cards
 pub mod Config
 pub mod Events
+pub mod Gutis
 pub mod Honest
 pub mod Index
+pub mod Keys
 pub mod Logs
+pub mod Numbered
 pub mod Script
+pub mod Sessions
 pub mod State
 pub mod Taken
