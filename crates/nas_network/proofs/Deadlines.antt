@@ -18,9 +18,9 @@ start_by : (x whose : List ℕ) (name id : TimerId) (at : ℕ) (ss : List Subscr
 start_by x whose name id at ss true own there =
     ap (deadline_of name) (own_change x whose (started id at) ss own there) ∙ deadline_of-started name id at (timers_of x ss)
     ∙ rw own (by_name (same_name id name) (deadline_for x name ss)) where
-  by_name : (same : Bool) (found : Option ℕ) → cond same (Some at) found ≡ (if same then Some at else found)
-  by_name true found = refl
-  by_name false found = refl
+      by_name : (same : Bool) (found : Option ℕ) → cond same (Some at) found ≡ (if same then Some at else found)
+      by_name true found = refl
+      by_name false found = refl
 start_by x whose name id at ss false other there =
     ap (deadline_of name) (others_stay x whose (started id at) ss other) ∙ rw other refl
 
@@ -29,9 +29,9 @@ stop_by : (x whose : List ℕ) (name id : TimerId) (ss : List SubscriberTimers) 
 stop_by x whose name id ss true own there =
     ap (deadline_of name) (own_change x whose (stopped id) ss own there) ∙ deadline_of-stopped name id (timers_of x ss)
     ∙ rw own (by_name (same_name id name) (deadline_for x name ss)) where
-  by_name : (same : Bool) (found : Option ℕ) → cond same None found ≡ (if same then None else found)
-  by_name true found = refl
-  by_name false found = refl
+      by_name : (same : Bool) (found : Option ℕ) → cond same None found ≡ (if same then None else found)
+      by_name true found = refl
+      by_name false found = refl
 stop_by x whose name id ss false other there =
     ap (deadline_of name) (others_stay x whose (stopped id) ss other) ∙ rw other refl
 

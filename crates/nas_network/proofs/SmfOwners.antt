@@ -217,6 +217,7 @@ smf_owned rand supi input t s b served named step =
           runs.own psi ∙ ap (running_after psi s.outs) (b.named supi psi not) ∙ none_after psi s.outs not law.of in
           subst (λ (y : List ℕ). commands_for (all_smf_taken rand supi s.outs (smf_reached s t)).network.timers y psi ≡ no_timer) (are_equal supi x own) here
       named_by x psi not false other runs law = runs.others x psi other ∙ b.named x psi not
+
       by_place : (x : List ℕ) (psi : ℕ) → is_psi psi ≡ true → (own : Bool) → bytes_eq supi x ≡ own
           → Runs supi s.outs (smf_reached s t) (all_smf_taken rand supi s.outs (smf_reached s t)) → SmfLawful supi input t.network.smf s
           → commands_for (all_smf_taken rand supi s.outs (smf_reached s t)).network.timers x psi ≡ running_of (cell_of x psi s.smf).held

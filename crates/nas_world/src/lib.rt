@@ -1,5 +1,5 @@
-//! Both ends together, with the logs of what each has sent, of what passed a check and of the security contexts that were taken into use: a
-//! handset, a network, and the events that a script makes happen between them.
+//! Both ends together, with the logs of what each has sent, of what passed a check and of the security contexts that were taken into use:
+//! 1 to 16 handsets, a network, and the events that a script makes happen between them.
 #![tactic(auto)]
 
 mod agreement;
@@ -19,9 +19,9 @@ mod sent;
 mod taken;
 mod world;
 
-pub use crate::config::WorldConfig;
+pub use crate::config::{Handsets, HandsetsRefusal, WorldConfig};
 pub use crate::event::{Event, NetOrder, RefusedWord};
-pub use crate::logs::{SentLog, TakenLog};
+pub use crate::logs::{SentLog, Taken, TakenLog};
 pub use crate::script::{Script, ScriptLine};
 pub use crate::seen::Seen;
 pub use crate::world::World;

@@ -1,4 +1,4 @@
-//! What both ends sent, and the contexts that the handset took into use.
+//! What both ends sent, and the contexts that handsets took into use.
 ghost use Rattle.std.specs.Prelude.{◌≡◌, option_copied, IfOk};
 ghost use Rattle.nas_world.specs.Logs.{sent_at};
 
@@ -7,24 +7,31 @@ use nas_security::{Context, Send, Sends};
 use std::alloc::Global;
 use std::marker::Model;
 
-/// All that was sent: up by the handset, down by the network. Each is numbered from 1.
+/// All that was sent on a link: up by its handset, down by the network. Each is numbered from 1.
 #[derive(Drop)]
 pub struct SentLog {
     pub up: Sends,
     pub down: Sends,
 }
 
-/// The security contexts that the handset took into use, in order.
+/// A security context that a handset took into use, `who` being the number of that handset.
+#[derive(Clone, Copy)]
+pub struct Taken {
+    pub who: u8,
+    pub context: Context,
+}
+
+/// The security contexts that handsets took into use, in order.
 #[derive(Drop)]
 pub struct TakenLog {
-    pub items: Vec<Context>,
+    pub items: Vec<Taken>,
 }
 
 impl Model for TakenLog {
     ghost use Rattle.std.specs.Prelude.{List};
-    ghost use Rattle.nas_security.specs.Contexts.{SecurityContext};
+    ghost use Rattle.nas_world.specs.declared.logs.Taken.{Taken};
 
-    ghost Value = { List SecurityContext };
+    ghost Value = { List Taken };
 
     ghost view = { λ t. t.items.items };
 }
