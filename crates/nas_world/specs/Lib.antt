@@ -1,10 +1,14 @@
 pub mod Agree
 pub mod Cards
+pub mod CommandLines
 pub mod Config
 pub mod Events
 pub mod Honest
 pub mod Index
+pub mod Lines
 pub mod Logs
+pub mod MessageLines
+pub mod OrderLines
 pub mod Script
 pub mod State
 pub mod Taken

@@ -4,13 +4,17 @@
 
 mod agreement;
 mod cards;
+mod command_lines;
 mod commands;
 mod config;
 mod deliveries;
 mod event;
 mod honesty;
+mod line;
 mod logs;
+mod message_lines;
 mod moments;
+mod order_lines;
 mod passes;
 mod refusals;
 mod script;
@@ -21,6 +25,7 @@ mod world;
 
 pub use crate::config::{Handsets, HandsetsRefusal, WorldConfig};
 pub use crate::event::{Event, NetOrder, RefusedWord};
+pub use crate::line::{Line, LineRefusal, read_line};
 pub use crate::logs::{SentLog, Taken, TakenLog};
 pub use crate::script::{Script, ScriptLine};
 pub use crate::seen::Seen;
