@@ -57,3 +57,14 @@ only_tables most ds = if nat_le 1 (length ds) && nat_le (length ds) most && list
 
 abbrev pub tables_at : ℕ → List ℕ → Data → Option (List Data)
 tables_at most key d = option_and_then (only_tables most) (entries_at key d)
+
+-- up to so many tables under a key, [[KEY]], which may be left out
+abbrev pub few_tables : ℕ → List Data → Option (List Data)
+few_tables most ds = if nat_le (length ds) most && list_all is_table ds then Some ds else None
+
+abbrev pub tables_if_there : ℕ → Option Data → Option (List Data)
+tables_if_there most None = Some []
+tables_if_there most (Some found) = option_and_then (few_tables most) (option_map list_of (as_array found))
+
+abbrev pub few_tables_at : ℕ → List ℕ → Data → Option (List Data)
+few_tables_at most key d = tables_if_there most (get key d)

@@ -1,23 +1,23 @@
 -- The values of single keys.
-use Rattle.std.specs.Prelude.{ℕ, ◌-◌, List, [], ◌∷◌, length, codes, nat_lt, ◌==◌, ◌||◌, ◌&&◌, Option, Some, None, option_map, if◌then◌else◌}
+use Rattle.std.specs.Prelude.{ℕ, ◌-◌, List, [], ◌∷◌, length, codes, nat_lt, ◌==◌, ◌||◌, ◌&&◌, Option, Some, None, option_map, is_some, if◌then◌else◌}
 use Rattle.std.specs.Char.{is_ascii_digit}
 use Rattle.std.specs.Option.{option_and_then}
 use Rattle.std.specs.Result.{result_ok}
 use Rattle.byteorder.specs.Endian.{big_number}
 use Rattle.hex.specs.Hex.{decode_of}
-use Rattle.toml.specs.Data.{Data}
+use Rattle.toml.specs.Data.{Data, as_str, get}
 use Rattle.nas_base.specs.Digits.{digits_from}
 use Rattle.nas_base.specs.Plmn.{PlmnIdentity, plmn_of_digits}
 use Rattle.nas_base.specs.Supi.{is_of_plmn, supi_from}
-use Rattle.nas_elements.specs.Ambr.{ambr_in}
 use Rattle.nas_elements.specs.Capability.{capability_in}
 use Rattle.nas_elements.specs.Timer3.{GprsTimer, timer3_in}
 use Rattle.nas_elements.specs.declared.ambr.Ambr.{Ambr}
 use Rattle.milenage.specs.Checking.{is_for_5g}
-use Rattle.nas_pools.specs.Config.{is_pool_size, pool_fits}
+use Rattle.nas_pools.specs.Config.{Pool6Parts, is_pool_size, pool6_from, pool_fits}
+use Rattle.nas_words.specs.Octets.{octets_in}
+use Rattle.nas_words.specs.Rates.{rates_in}
 use Rattle.nas_script.specs.Addresses.{address_in}
 use Rattle.nas_script.specs.Document.{number_at, text_at}
-use Rattle.nas_script.specs.Octets.{octets_in}
 
 -- the values of ASCII digits
 abbrev pub digit_values : List ℕ → Option (List ℕ)
@@ -80,9 +80,29 @@ size_from pool size = if is_pool_size size && pool_fits pool size then Some size
 unfoldable pub pool_size_at : List ℕ → Data → Option ℕ
 pool_size_at pool network = option_and_then (size_from pool) (number_at 1 65536 (codes "pool_size") network)
 
+-- pool6: the 8 octets of the first interface identifier, where it is there
+abbrev pub identifier_in : Data → Option ℕ
+identifier_in found = option_map (big_number 8) (option_and_then (octets_in 8) (as_str found))
+
+abbrev pub if_there : {A : Type 0} → (Data → Option A) → Option Data → Option (Option A)
+if_there read None = Some None
+if_there read (Some found) = option_map Some (read found)
+
+unfoldable pub pool6_at : Data → Option (Option ℕ)
+pool6_at network = if_there identifier_in (get (codes "pool6") network)
+
+-- pool6_size: 1 to 65,536, so that the last identifier is 2^64 - 1 at most; it is there exactly where pool6 is
+abbrev pub pool6_with : Option ℕ → Data → Option (Option Pool6Parts)
+pool6_with None network = if is_some (get (codes "pool6_size") network) then None else Some None
+pool6_with (Some first) network =
+    option_map Some (option_and_then (pool6_from first) (number_at 1 65536 (codes "pool6_size") network))
+
+unfoldable pub pool6_size_at : Option ℕ → Data → Option (Option Pool6Parts)
+pool6_size_at first network = pool6_with first network
+
 -- ambr: the 6 octets of a session AMBR
 unfoldable pub ambr_at : Data → Option Ambr
-ambr_at network = option_and_then ambr_in (octets_at 6 (codes "ambr") network)
+ambr_at network = option_and_then rates_in (text_at (codes "ambr") network)
 
 -- field: 2 octets, the first bit 1; sqn: 6 octets
 abbrev pub field_from : List ℕ → Option (List ℕ)

@@ -1,7 +1,7 @@
 //! TOML documents, and what stands under their keys.
 ghost use Rattle.std.specs.Prelude.{◌≡◌, ◌≤◌, true, ◌&&◌, map, option_map, IfSome};
 ghost use Rattle.toml.specs.View.{view};
-ghost use Rattle.nas_script.specs.Document.{between, document_in, entries_at, integer_at, is_table, number_at, table_at, tables_at, text_at};
+ghost use Rattle.nas_script.specs.Document.{between, document_in, entries_at, few_tables, few_tables_at, integer_at, is_table, number_at, table_at, tables_at, text_at};
 ghost use Rattle.nas_script.specs.Reads.{Reads, named};
 ghost use Rattle.nas_script.specs.declared.key.Key.TheVariants as keys;
 ghost use Rattle.std.specs.List.{list_all};
@@ -103,6 +103,26 @@ pub fn entries_of<'a>(key: &str, value: &'a Value) -> Option<&'a [Value]>
         Some(found) => Some(found.as_array()?.as_slice()),
         None => None,
     }
+}
+
+/// The tables under a key, `most` at most, which may be left out.
+pub fn few_tables_of<'a>(most: usize, key: &str, value: &'a Value) -> Option<&'a [Value]>
+    ensures { option_map (λ vs. map view vs.now) result ≡ few_tables_at most key.now (view value.now) }
+{
+    match value.get(key) {
+        None => Some(&[]),
+        Some(found) => few_tables(most, found.as_array()?.as_slice()),
+    }
+}
+
+// These entries, where they are tables, and `most` at most.
+fn few_tables(most: usize, entries: &[Value]) -> Option<&[Value]>
+    ensures { option_map (λ vs. map view vs.now) result ≡ few_tables most (map view entries.now) }
+{
+    if most < entries.len() || !all_tables(entries) {
+        return None;
+    }
+    Some(entries)
 }
 
 // Each of them is a table.

@@ -4,17 +4,16 @@ ghost use Rattle.milenage.specs.Checking.{is_for_5g};
 ghost use Rattle.nas_base.specs.Supi.{is_of_plmn};
 ghost use Rattle.nas_pools.specs.Config.{is_pool_size, pool_fits};
 ghost use Rattle.toml.specs.View.{view};
-ghost use Rattle.nas_script.specs.Fields.{ambr_at, capability_at, ciphering_at, field_at, hex_capability_in, digits_in, octets_at, plmn_at, pool_at, pool_size_at, sqn_at, supi_at, t3512_at, tmsi_at};
+ghost use Rattle.nas_script.specs.Fields.{ambr_at, capability_at, ciphering_at, field_at, hex_capability_in, identifier_in, digits_in, octets_at, plmn_at, pool6_at, pool6_size_at, pool_at, pool_size_at, sqn_at, supi_at, t3512_at, tmsi_at};
 
 use crate::addresses::address_of;
 use crate::document::{number_of, text_of};
-use crate::octets;
 use arrayvec::ArrayVec;
 use byteorder::{BigEndian, ByteOrder};
 use nas_base::{Digits, Plmn, Supi};
 use nas_elements::{Ambr, Capability, Timer3};
 use nas_network::is_for_5g;
-use nas_pools::{is_pool_size, pool_fits};
+use nas_pools::{Pool6, is_pool_size, pool_fits};
 use toml::Value;
 
 /// The network of 5 or 6 digits under `plmn`.
@@ -50,7 +49,7 @@ pub fn capability_of(handset: &Value) -> Option<Capability>
 pub fn octets_of<const N: usize>(key: &str, table: &Value) -> Option<[u8; N]>
     ensures { result ≡ octets_at N key.now (view table.now) }
 {
-    octets::octets_of(text_of(key, table)?.as_bytes())
+    nas_words::octets_of(text_of(key, table)?.as_bytes())
 }
 
 /// The 5G-TMSI that is given first, under `tmsi`: 1 to 2^32 - 1.
@@ -107,12 +106,49 @@ pub fn pool_size_of(pool: &[u8; 4], network: &Value) -> Option<u32>
     }
 }
 
+/// The first interface identifier of IPv6, in 16 hex digits under `pool6`, where it is there.
+#[tactic(auto, unfolding(crate::specs::Fields::pool6_at))]
+pub fn pool6_of(network: &Value) -> Option<Option<u64>>
+    ensures value { result ≡ pool6_at (view network.now) }
+{
+    match network.get("pool6") {
+        None => Some(None),
+        Some(found) => Some(Some(identifier_of(found)?)),
+    }
+}
+
+// An interface identifier in 16 hex digits.
+fn identifier_of(found: &Value) -> Option<u64>
+    ensures { result ≡ identifier_in (view found.now) }
+{
+    let octets = nas_words::octets_of::<8>(found.as_str()?.as_bytes())?;
+    Some(BigEndian::read_u64(&octets))
+}
+
+/// The pool of interface identifiers from this one on, so many as stand under `pool6_size`: 1 to 65,536, of which the last is 2^64 - 1 at
+/// most. Where there is no first one, nothing stands there.
+#[tactic(auto, unfolding(crate::specs::Fields::pool6_size_at))]
+pub fn pool6_size_of(first: Option<u64>, network: &Value) -> Option<Option<Pool6>>
+    ensures { result ≡ pool6_size_at first (view network.now) }
+{
+    match first {
+        Some(first) => {
+            let size = number_of(1, 65_536, "pool6_size", network)?;
+            Some(Some(Pool6::from_parts(first, size)?))
+        }
+        None => match network.get("pool6_size") {
+            None => Some(None),
+            Some(_) => None,
+        },
+    }
+}
+
 /// The session AMBR of 12 hex digits under `ambr`.
 #[tactic(auto, unfolding(crate::specs::Fields::ambr_at))]
 pub fn ambr_of(network: &Value) -> Option<Ambr>
     ensures { result ≡ ambr_at (view network.now) }
 {
-    Ambr::read(&octets_of::<6>("ambr", network)?).ok()
+    nas_words::ambr_of(text_of("ambr", network)?.as_bytes())
 }
 
 /// The AMF field of 4 hex digits under `field`, whose first bit is 1.
