@@ -1,33 +1,28 @@
 -- The script: a line for each event, and lines that are none.
-use Rattle.std.specs.Prelude.{◌≡◌, ℕ, ◌+◌, List, [], ◌∷◌, ◌++◌, nat_lt, Option, Some, None, option_map, Result, Ok, Err, if◌then◌else◌}
+use Rattle.std.specs.Prelude.{◌≡◌, ℕ, ◌+◌, List, [], ◌∷◌, ◌++◌, nat_lt, Option, Some, None, Result, Ok, Err, if◌then◌else◌}
+use Rattle.nas_world.specs.Lines.{line_in}
 use Rattle.nas_world.specs.Script.{Line}
-use Rattle.nas_world.specs.declared.event.Event.{Event}
-use Rattle.nas_script.specs.Events.{event_in}
-use Rattle.nas_script.specs.Lines.{all_ascii, count_events, is_event, split}
+use Rattle.nas_world.specs.declared.line.Line as declared
+use Rattle.nas_world.specs.declared.line.Line.TheVariants as lines
+use Rattle.nas_script.specs.Lines.{count_events, split}
 use Rattle.nas_script.specs.declared.script.ScriptRefusal.{ScriptRefusal}
 use Rattle.nas_script.specs.declared.script.ScriptRefusal.TheVariants.{TooLong, ScriptWrong, Memory}
-
--- What a line says: an event, or nothing. One that says neither is no line; nor is one with an octet above 127, be it a
--- comment.
-abbrev pub said_by : List ℕ → Option (Option Event)
-said_by line =
-    if all_ascii line then (if is_event line then option_map Some (event_in line) else Some None) else None
 
 -- the text of an event
 abbrev pub text_of : Line → List ℕ
 text_of line = line.text
 
 -- a line before the events of those behind it
-abbrev pub with_line : ℕ → List ℕ → Option (Option Event) → Result (List Line) ScriptRefusal → Result (List Line) ScriptRefusal
+abbrev pub with_line : ℕ → List ℕ → Option declared.Line → Result (List Line) ScriptRefusal → Result (List Line) ScriptRefusal
 with_line number line None rest = Err (ScriptWrong number)
-with_line number line (Some None) rest = rest
-with_line number line (Some (Some event)) (Ok lines) = Ok (record { event = event; text = line } ∷ lines)
-with_line number line (Some (Some event)) (Err refusal) = Err refusal
+with_line number line (Some lines.Nothing) rest = rest
+with_line number line (Some (lines.Event event)) (Ok more) = Ok (record { event = event; text = line } ∷ more)
+with_line number line (Some (lines.Event event)) (Err refusal) = Err refusal
 
 -- the events of lines, which are numbered on from that number, or the first that is none
 abbrev pub events_in : ℕ → List (List ℕ) → Result (List Line) ScriptRefusal
 events_in number [] = Ok []
-events_in number (l ∷ ls) = with_line number l (said_by l) (events_in (number + 1) ls)
+events_in number (l ∷ ls) = with_line number l (line_in l) (events_in (number + 1) ls)
 
 -- the script in the octets; the number of its events is judged first
 unfoldable pub script_in : List ℕ → Result (List Line) ScriptRefusal
@@ -47,9 +42,9 @@ before lines (Ok more) = Ok (lines ++ more)
 before lines (Err refusal) = Err refusal
 
 -- what a reader of one more line answered, which kept the events so far
-abbrev pub ReadsLine : ℕ → List ℕ → List Line → List Line → Result (Unit {0}) ScriptRefusal → Type 0
-ReadsLine number line old new (Ok _) =
-    (rest : Result (List Line) ScriptRefusal) → before old (with_line number line (said_by line) rest) ≡ before new rest
-ReadsLine number line old new (Err (ScriptWrong wrong)) = (wrong ≡ number) × (said_by line ≡ None)
-ReadsLine number line old new (Err (TooLong size)) = ⊥
-ReadsLine number line old new (Err Memory) = Unit {0}
+abbrev pub ReadsOneMore : ℕ → List ℕ → List Line → List Line → Result (Unit {0}) ScriptRefusal → Type 0
+ReadsOneMore number line old new (Ok _) =
+    (rest : Result (List Line) ScriptRefusal) → before old (with_line number line (line_in line) rest) ≡ before new rest
+ReadsOneMore number line old new (Err (ScriptWrong wrong)) = (wrong ≡ number) × (line_in line ≡ None)
+ReadsOneMore number line old new (Err (TooLong size)) = ⊥
+ReadsOneMore number line old new (Err Memory) = Unit {0}

@@ -1,22 +1,21 @@
 //! The configuration.
-ghost use Rattle.std.specs.Prelude.{◌≡◌, Some, option_map, IfOk};
+ghost use Rattle.std.specs.Prelude.{◌≡◌, Some, IfOk};
 ghost use Rattle.toml.specs.View.{view};
-ghost use Rattle.nas_script.specs.Config.{config_in, configured, handset_at, handset_in};
+ghost use Rattle.nas_script.specs.Config.{config_in, configured};
 ghost use Rattle.nas_script.specs.Reads.{Reads, named};
 
 use crate::Key;
+use crate::data_networks::read_kinds;
 use crate::document::{document, table_of, tables_of};
-use crate::fields::{capability_of, octets_of, sqn_of, supi_of};
+use crate::handset_tables::read_handsets;
 use crate::network_table::read_network;
 use crate::subscribers::read_subscribers;
 use crate::timers_table::read_durations;
-use nas_base::{Memory, Plmn};
-use nas_timers::Durations;
+use nas_base::Memory;
 use nas_world::WorldConfig;
 use std::alloc::Global;
 use thiserror::Error;
 use toml::Value;
-use ue_mm::HandsetConfig;
 
 /// Why octets were not read as a configuration.
 #[derive(Debug, Drop, Error)]
@@ -70,44 +69,13 @@ fn read_document(alloc: Global, document: &Value) -> Result<WorldConfig, ConfigR
 {
     let network = read_network(needed(Key::Network, table_of("network", document))?)?;
     let durations = read_durations(document)?;
+    let kinds = read_kinds(alloc, &network.pool6, document)?;
     let tables = needed(Key::Subscriber, tables_of(64, "subscriber", document))?;
     let subscribers = read_subscribers(alloc, &network.plmn, tables)?;
-    let table = needed(Key::Handset, handset_of(document))?;
-    let handset = read_handset(&network.plmn, durations, table)?;
+    let tables = needed(Key::Handset, tables_of(16, "handset", document))?;
+    let handsets = read_handsets(alloc, &network.plmn, durations, tables)?;
     Ok(WorldConfig {
-        net: network.with(alloc, durations, subscribers),
-        handset,
-    })
-}
-
-// The one handset.
-fn handset_of(document: &Value) -> Option<&Value>
-    ensures { option_map (λ v. view v.now) result ≡ handset_at (view document.now) }
-{
-    tables_of(1, "handset", document)?.first()
-}
-
-// The handset of a table, with these durations.
-#[tactic(auto, unfolding(crate::specs::Config::handset_in))]
-fn read_handset(
-    plmn: &Plmn,
-    durations: Durations,
-    table: &Value,
-) -> Result<HandsetConfig, ConfigRefusal>
-    ensures { Reads (λ h. h) result (handset_in plmn.now durations (view table.now)) }
-{
-    let supi = needed(Key::Supi, supi_of(plmn, table))?;
-    let k = needed(Key::K, octets_of::<16>("k", table))?;
-    let opc = needed(Key::Opc, octets_of::<16>("opc", table))?;
-    let sqn = needed(Key::Sqn, sqn_of(table))?;
-    let capability = needed(Key::Capability, capability_of(table))?;
-    Ok(HandsetConfig {
-        supi,
-        plmn: plmn.copy(),
-        k,
-        opc,
-        sqn,
-        capability,
-        durations,
+        net: network.with(durations, kinds, subscribers),
+        handsets,
     })
 }

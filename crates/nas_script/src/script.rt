@@ -1,12 +1,12 @@
 //! The script.
 ghost use Rattle.std.specs.Prelude.{◌≡◌, ◌≤◌, ◌+◌, true, length, filter, map, if◌then◌else◌, IfOk, OnOk};
+ghost use Rattle.nas_world.specs.Lines.{is_event};
 ghost use Rattle.nas_world.specs.Script.{is_one_line};
-ghost use Rattle.nas_script.specs.Lines.{count_events, is_event, split};
-ghost use Rattle.nas_script.specs.Script.{ReadsLine, ReadsLines, events_in, script_in, text_of};
+ghost use Rattle.nas_script.specs.Lines.{count_events, split};
+ghost use Rattle.nas_script.specs.Script.{ReadsLines, ReadsOneMore, events_in, script_in, text_of};
 
-use crate::event_line::said_by;
-use nas_base::{Memory, Octets1M};
-use nas_world::{Script, ScriptLine};
+use nas_base::Octets1M;
+use nas_world::{Line, LineRefusal, Script, ScriptLine, read_line};
 use std::alloc::Global;
 use std::mem;
 use thiserror::Error;
@@ -60,18 +60,18 @@ fn read_lines(alloc: Global, octets: &[u8]) -> Result<Vec<ScriptLine>, ScriptRef
     for octet in octets {
         if *octet == b'\n' {
             let whole = mem::replace(&mut line, Vec::new(alloc));
-            read_line(alloc, &mut items, number, whole)?;
+            read_one_more(alloc, &mut items, number, whole)?;
             number += 1;
         } else if line.push(*octet).is_err() {
             return Err(ScriptRefusal::Memory);
         }
     }
-    read_line(alloc, &mut items, number, line)?;
+    read_one_more(alloc, &mut items, number, line)?;
     Ok(items)
 }
 
 // Reads one more line, of this number.
-fn read_line(
+fn read_one_more(
     alloc: Global,
     items: &mut Vec<ScriptLine>,
     number: u32,
@@ -79,14 +79,14 @@ fn read_line(
 ) -> Result<(), ScriptRefusal>
     requires limit { length line.items ≤ 1048576 }
     requires one { is_one_line line.items ≡ true }
-    ensures value { ReadsLine number line.items items.old.items items.new.items result }
+    ensures value { ReadsOneMore number line.items items.old.items items.new.items result }
     ensures count { OnOk result (length items.new.items ≡ length items.old.items + (if is_event line.items then 1 else 0)) }
 {
-    match said_by(alloc, line.as_slice()) {
-        Err(Memory) => Err(ScriptRefusal::Memory),
-        Ok(None) => Err(ScriptRefusal::ScriptWrong { line: number }),
-        Ok(Some(None)) => Ok(()),
-        Ok(Some(Some(event))) => {
+    match read_line(alloc, line.as_slice()) {
+        Err(LineRefusal::Memory) => Err(ScriptRefusal::Memory),
+        Err(LineRefusal::Wrong) => Err(ScriptRefusal::ScriptWrong { line: number }),
+        Ok(Line::Nothing) => Ok(()),
+        Ok(Line::Event(event)) => {
             let line = ScriptLine {
                 event,
                 text: Octets1M { items: line },
