@@ -2,5 +2,6 @@ pub mod ConfigLaws
 pub mod DocumentLaws
 pub mod LinesLaws
 pub mod ScriptLaws
+pub mod TableLaws
 pub mod TranscriptLaws
 pub mod WorldLaws

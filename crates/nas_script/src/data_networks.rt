@@ -1,9 +1,10 @@
 //! The tables of the data networks.
-ghost use Rattle.std.specs.Prelude.{◌≡◌, ◌≤◌, [], ◌∷◌, ◌++◌, true, false, length, map, option_map, IfOk, IfSome, OnOk};
+ghost use Rattle.std.specs.Prelude.{◌≡◌, ◌≤◌, [], ◌∷◌, ◌++◌, true, false, codes, length, map, IfOk, IfSome, OnOk};
 ghost use Rattle.toml.specs.View.{view};
-ghost use Rattle.nas_pools.specs.Kinds.{are_kinds, is_kind, is_listed};
+ghost use Rattle.nas_pools.specs.Kinds.{is_kind, is_listed};
 ghost use Rattle.smf_core.specs.Config.{kinds_fit};
 ghost use Rattle.nas_script.specs.DataNetworks.{data_network_in, data_networks_in, kinds_at, kinds_in, most_kinds, new_name_at};
+ghost use Rattle.nas_script.specs.Document.{number_at};
 ghost use Rattle.nas_script.specs.Reads.{Reads};
 
 use crate::config::needed;
@@ -66,7 +67,7 @@ fn read_data_network(
     table: &Value,
 ) -> Result<DnnKind, ConfigRefusal>
     ensures value { Reads (λ network. network) result (data_network_in pool6.now before.now (view table.now)) }
-    ensures fact { IfOk result (λ network. (is_listed network.dnn before.now ≡ false) × (network.kinds ≤ most_kinds pool6.now)) }
+    ensures fact { IfOk result (λ network. (is_listed network.dnn before.now ≡ false) × (is_kind network.kinds ≡ true) × (network.kinds ≤ most_kinds pool6.now)) }
 {
     let dnn = needed(Key::Name, new_name_of(before, table))?;
     let kinds = needed(Key::Kinds, kinds_of(pool6, table))?;
@@ -106,7 +107,18 @@ fn kinds_of(pool6: &Option<Pool6>, table: &Value) -> Option<u8>
     ensures kind { IfSome result (λ kinds. is_kind kinds ≡ true) }
     ensures fact { IfSome result (λ kinds. kinds ≤ most_kinds pool6.now) }
 {
-    let most = if pool6.is_some() { 3 } else { 1 };
-    let kinds = number_of(1, most, "kinds", table)?;
-    Some(kinds as u8)
+    match pool6 {
+        Some(_) => number_up_to(3, table),
+        None => number_up_to(1, table),
+    }
+}
+
+// The number under `kinds`, where it lies from 1 to `most`.
+fn number_up_to(most: u32, table: &Value) -> Option<u8>
+    requires { most ≤ 3 }
+    ensures value { result ≡ number_at 1 most (codes "kinds") (view table.now) }
+    ensures kind { IfSome result (λ kinds. is_kind kinds ≡ true) }
+    ensures limit { IfSome result (λ kinds. kinds ≤ most) }
+{
+    Some(number_of(1, most, "kinds", table)? as u8)
 }
