@@ -12,6 +12,7 @@ pub mod Names
 pub mod NetworkTable
 pub mod Reads
 pub mod Script
+pub mod SessionLines
 pub mod Slices
 pub mod Subscribers
 pub mod TimersTable

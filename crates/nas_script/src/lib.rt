@@ -14,6 +14,7 @@ mod key;
 mod names;
 mod network_table;
 mod script;
+mod session_lines;
 mod slices;
 mod subscribers;
 mod telling;
