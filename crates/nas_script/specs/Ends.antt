@@ -1,5 +1,5 @@
 -- The lines of both ends in a transcript.
-use Rattle.std.specs.Prelude.{ℕ, Bool, List, [], ◌∷◌, ◌++◌, codes, Option, Some, None, if◌then◌else◌}
+use Rattle.std.specs.Prelude.{ℕ, ◌+◌, Bool, List, [], ◌∷◌, ◌++◌, codes, Option, Some, None, if◌then◌else◌}
 use Rattle.std.specs.Fmt.{decimal}
 use Rattle.byteorder.specs.Endian.{big_bytes}
 use Rattle.hex.specs.Hex.{encode_lower}
@@ -9,8 +9,13 @@ use Rattle.nas_base.specs.declared.state_words.MmWord.{MmWord}
 use Rattle.nas_base.specs.declared.state_words.MmWord.TheVariants as mm
 use Rattle.nas_elements.specs.declared.guti.Guti.{Guti}
 use Rattle.nas_security.specs.Contexts.{SecurityContext}
+use Rattle.amf_core.specs.State.{view_in}
 use Rattle.amf_core.specs.declared.view.NetView.{NetView}
+use Rattle.nas_network.specs.State.{NetworkState}
+use Rattle.ue_mm.specs.State.{view_of}
 use Rattle.ue_mm.specs.declared.view.UeView.{UeView}
+use Rattle.nas_script.specs.SessionLines.{sessions_text}
+use Rattle.nas_script.specs.Told.{Told, are_several}
 
 -- the handset's state; a registration is told in the same way wherever it began
 unfoldable pub mm_text : MmWord → List ℕ
@@ -77,3 +82,22 @@ no_subscriber_text = codes "  net none - -\n"
 abbrev pub net_text : Option NetView → List ℕ
 net_text None = no_subscriber_text
 net_text (Some view) = subscriber_text view
+
+-- a handset, its subscriber, and its sessions at both
+unfoldable pub handset_text : NetworkState → Told → List ℕ
+handset_text n t = ue_text (view_of t.handset.mm) ++ (net_text (view_in t.supi n.amf) ++ sessions_text t.supi t.handset n)
+
+-- where there are several, each handset stands under a line of its number
+unfoldable pub number_line : ℕ → List ℕ
+number_line number = codes "  handset " ++ (decimal number ++ codes "\n")
+
+abbrev pub handsets_text : NetworkState → ℕ → List Told → List ℕ
+handsets_text n number [] = []
+handsets_text n number (t ∷ ts) = number_line number ++ (handset_text n t ++ handsets_text n (number + 1) ts)
+
+abbrev pub only_text : NetworkState → List Told → List ℕ
+only_text n [] = []
+only_text n (t ∷ ts) = handset_text n t
+
+abbrev pub ends_text : NetworkState → List Told → List ℕ
+ends_text n tolds = if are_several tolds then handsets_text n 1 tolds else only_text n tolds

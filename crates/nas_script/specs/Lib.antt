@@ -8,6 +8,7 @@ pub mod Fields
 pub mod HandsetTables
 pub mod Keys
 pub mod Lines
+pub mod MessageTexts
 pub mod Names
 pub mod NetworkTable
 pub mod Reads
@@ -16,4 +17,5 @@ pub mod SessionLines
 pub mod Slices
 pub mod Subscribers
 pub mod TimersTable
+pub mod Told
 pub mod Transcript

@@ -1,0 +1,61 @@
+-- The lines of an event's messages in a transcript.
+use Rattle.std.specs.Prelude.{ℕ, ◌+◌, ◌-◌, Bool, true, false, List, [], ◌∷◌, ◌++◌, codes, ◌==◌, if◌then◌else◌}
+use Rattle.std.specs.Fmt.{decimal}
+use Rattle.hex.specs.Hex.{encode_lower}
+use Rattle.nas_security.specs.declared.sends.Send.{Send}
+use Rattle.nas_world.specs.declared.event.Event.{Event}
+use Rattle.nas_world.specs.declared.event.Event.TheVariants as events
+use Rattle.nas_script.specs.Told.{Told, downs_on, ups_on}
+use Rattle.nas_script.specs.declared.message_texts.Way.{Way}
+use Rattle.nas_script.specs.declared.message_texts.Way.TheVariants.{Up, Down}
+
+-- what an event makes speak: a handset, or the network
+abbrev pub way_of : Event → Way
+way_of (events.Command who command) = Up who
+way_of (events.NetCommand who order) = Down
+way_of (events.ToNet who k) = Down
+way_of (events.ToUe who k) = Up who
+way_of (events.InjectNet who fresh octets) = Down
+way_of (events.InjectUe who octets) = Up who
+way_of (events.UeAt who at) = Up who
+way_of (events.NetAt at) = Down
+way_of (events.DropUe who) = Up who
+way_of (events.DropNet who) = Down
+way_of (events.Restart who) = Up who
+way_of (events.Random words) = Down
+
+unfoldable pub way_text : Way → List ℕ
+way_text (Up who) = codes "up"
+way_text Down = codes "down"
+
+-- the link of a message, and how many messages its log has
+abbrev pub link_of : Way → Send → ℕ
+link_of (Up who) s = who
+link_of Down s = s.link
+
+abbrev pub size_of : Way → ℕ → List Told → ℕ
+size_of (Up who) link tolds = ups_on link tolds
+size_of Down link tolds = downs_on link tolds
+
+-- how many messages of these go on a link
+abbrev pub count_on : Way → ℕ → List Send → ℕ
+count_on way link [] = 0
+count_on way link (s ∷ ss) = (if link_of way s == link then 1 else 0) + count_on way link ss
+
+-- the number of a message in its log, where only the later ones of the event stand behind it
+abbrev pub number_of : Way → List Told → Send → List Send → ℕ
+number_of way tolds s later = size_of way (link_of way s) tolds - count_on way (link_of way s) later
+
+-- the link is told where there are several handsets
+unfoldable pub link_text : Bool → ℕ → List ℕ
+link_text several link = if several then decimal link ++ codes " " else []
+
+unfoldable pub message_text : Bool → Way → ℕ → ℕ → Send → List ℕ
+message_text several way link number s =
+    codes "  " ++ (way_text way ++ (codes " " ++ (link_text several link ++ (decimal number ++ (codes " " ++ (encode_lower s.octets ++ codes "\n"))))))
+
+-- the messages of an event, in the order in which they were sent
+abbrev pub messages_text : Bool → Way → List Told → List Send → List ℕ
+messages_text several way tolds [] = []
+messages_text several way tolds (s ∷ ss) =
+    message_text several way (link_of way s) (number_of way tolds s ss) s ++ messages_text several way tolds ss
