@@ -84,4 +84,5 @@ class Subscribed:
     def subscriber_word(self, subscriber):
         slices = self.model.codec.NssaiC.write(subscriber.slices)
         names = ".".join(map(text, subscriber.dnns))
-        return f"{subscriber.supi}:{text(subscriber.k)}:{text(subscriber.opc)}:{text(subscriber.field)}:{subscriber.sqn:012x}:{names}:{text(slices)}"
+        keys = f"{text(subscriber.k)}:{text(subscriber.opc)}:{text(subscriber.field)}:{subscriber.sqn:012x}"
+        return f"{subscriber.supi}:{keys}:{names}:{text(slices)}"

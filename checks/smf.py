@@ -72,7 +72,8 @@ class SmfWalk(Walk):
 
     def drawn(self, config):
         config = drawn_smf(self.rng, self.codec, self.pools, self.timer_keys, config)
-        return config._replace(subscribers=tuple(self.subscriber(config.subscribers[0], supi) for supi in ("001010000000001", "001010000000002")))
+        supis = "001010000000001", "001010000000002"
+        return config._replace(subscribers=tuple(self.subscriber(config.subscribers[0], supi) for supi in supis))
 
     def subscriber(self, standard, supi):
         slices = [self.codec.SliceC.read(bytes.fromhex(made)) for made in self.rng.sample(["01", "01010203", "02"], self.rng.randint(1, 3))]

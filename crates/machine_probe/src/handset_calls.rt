@@ -16,9 +16,9 @@
 //!                             commands to a session, as session_words reads them
 //!     session:PSI             a session is looked at
 //!
-//! The answer has a step for each INPUT, with a blank between. Of `session` it is that session, as session_words writes it. Any other step is
-//! what came of it, and then what can be seen, with commas between. What comes of it is some of these, in this order, where a PASS is
-//! SUPI.SQN.RAND.COUNT:
+//! The answer has a step for each INPUT, with a blank between. Of `session` it is that session, as session_words writes it. Any other
+//! step is what came of it, and then what can be seen, with commas between. What comes of it is some of these, in this order, where a
+//! PASS is SUPI.SQN.RAND.COUNT:
 //!
 //!     refused:wrong_state:STATE, refused:no_such_session:PSI, refused:session_there:PSI, refused:busy:STATE,
 //!     refused:semantic:RULE, refused:too_many:COUNT, refused:no_pti:LAST, refused:spent:NEXT

@@ -1,7 +1,8 @@
 //! The calls of nas_network, at the network of PLMN, AMF, TMSI, NEA, TAC, T3512 and the milliseconds of four timers, of an SMF whose words
 //! session_words reads, and with these subscribers:
 //!
-//!     network PLMN:AMF:TMSI:NEA:TAC:T3512:T3522:T3550:T3555:T3560 POOLS T3591:T3592 AMBR KINDS SUPI:K:OPC:FIELD:SQN:DNNS:SLICES,.. INPUT ..
+//!     network PLMN:AMF:TMSI:NEA:TAC:T3512:T3522:T3550:T3555:T3560 POOLS T3591:T3592 AMBR KINDS
+//!             SUPI:K:OPC:FIELD:SQN:DNNS:SLICES,.. INPUT INPUT ..
 //!     time_network TIMES SUBSCRIBERS
 //!     time_network_copy TIMES SUBSCRIBERS
 //!     time_both_ends TIMES SUBSCRIBERS

@@ -1,12 +1,12 @@
 -- What starts and stops does to the deadline of a timer.
-use Rattle.std.proofs.Common.{◌≡◌, ◌∙◌, ap, refl, sym, ℕ, Bool, true, false, ◌&&◌, cond, ◌<◌, ◌+◌, List, [], ◌∷◌, ◌++◌, length, take, get_or, Option, None, Some, if◌then◌else◌}
+use Rattle.std.proofs.Common.{◌≡◌, ◌∙◌, ap, refl, sym, ℕ, Bool, true, false, cond, ◌<◌, ◌+◌, List, [], ◌∷◌, ◌++◌, length, take, get_or, Option, None, Some, if◌then◌else◌}
 use Rattle.std.proofs.lemmas.List.{take_more}
 use Rattle.std.specs.Str.{bytes_eq}
 use Rattle.nas_timers.specs.Names.{same_name}
-use Rattle.nas_timers.specs.Timers.{Running, deadline_of, started, stopped}
+use Rattle.nas_timers.specs.Timers.{deadline_of, started, stopped}
 use Rattle.nas_timers.specs.declared.timer_id.TimerId.{TimerId}
 use Rattle.nas_timers.proofs.DeadlineLaws.{deadline_of-started, deadline_of-stopped}
-use Rattle.nas_network.specs.State.{SubscriberTimers, changed_for, deadline_for, is_timed, started_for, stopped_for, timers_of}
+use Rattle.nas_network.specs.State.{SubscriberTimers, deadline_for, is_timed, started_for, stopped_for, timers_of}
 use Rattle.nas_network.specs.TakingOver.{deadline_by, timers_after, timers_by}
 use Rattle.nas_network.specs.declared.timers.TimerChange.{TimerChange}
 use Rattle.nas_network.specs.declared.timers.TimerChange.TheVariants.{Start, Stop}
