@@ -1,8 +1,9 @@
 -- What a transcript tells of a world: for each handset, in order, its subscriber's SUPI, the handset, and what was sent on its link.
-use Rattle.std.specs.Prelude.{ℕ, ◌-◌, Bool, List, [], length, nat_lt, Option, Some, None, slice_get}
+use Rattle.std.specs.Prelude.{ℕ, Bool, List, length, nat_lt}
 use Rattle.nas_base.specs.Branches.{per}
 use Rattle.nas_security.specs.declared.sends.Send.{Send}
 use Rattle.nas_handset.specs.State.{HandsetState}
+use Rattle.nas_world.specs.Logs.{sent_at}
 
 pub record Told : Type 0 where
   pub supi : List ℕ
@@ -16,7 +17,7 @@ are_several tolds = nat_lt 1 (length tolds)
 
 -- how many messages there are on a link, which is numbered from 1
 abbrev pub ups_on : ℕ → List Told → ℕ
-ups_on link tolds = per (slice_get tolds (link - 1)) 0 (λ (t : Told). length t.up)
+ups_on link tolds = per (sent_at link tolds) 0 (λ (t : Told). length t.up)
 
 abbrev pub downs_on : ℕ → List Told → ℕ
-downs_on link tolds = per (slice_get tolds (link - 1)) 0 (λ (t : Told). length t.down)
+downs_on link tolds = per (sent_at link tolds) 0 (λ (t : Told). length t.down)
