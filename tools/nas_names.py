@@ -1,6 +1,9 @@
-"""What a NAS message is called (TS 24.501 clauses 8 and 9), as far as its octets tell without a key."""
+"""What a NAS message is called (TS 24.501 clauses 8 and 9)."""
 
 EXTENDED_MM, EXTENDED_SM = 0x7E, 0x2E       # the first octets of 5GMM and of 5GSM messages
+SECURITY_MODE_COMMAND = 0x5D
+TRANSPORT_TYPES = (0x67, 0x68)              # the 5GMM messages that carry others in a container
+CONTAINER_OF_SESSION = 1                    # the type of a container with a 5GSM message
 
 MM_NAMES = {
     0x41: "REGISTRATION REQUEST", 0x42: "REGISTRATION ACCEPT",
@@ -33,7 +36,8 @@ def header_type(octets):
 
 
 def readable(octets):
-    """The plain 5GMM message that can be read: the message itself, or what header types 1 and 3 (not ciphered) hold; or None."""
+    """The plain 5GMM message that can be read without a key: the message itself, or what header types 1 and 3 (not ciphered)
+    hold; or None."""
     header = header_type(octets)
     if header in (1, 3):
         octets = octets[7:]
@@ -41,16 +45,31 @@ def readable(octets):
     return octets if header == 0 and len(octets) >= 3 else None
 
 
-def name_of(octets):
-    """The message's name where it can be read, with the security header type and sequence number where it is protected."""
+def lines_of(octets, plain):
+    """What is told of a message whose plain one is this, or None where it isn't known: the name, with the security header type
+    and sequence number where it is protected, and in a second line the session message in it."""
     if len(octets) >= 4 and octets[0] == EXTENDED_SM:
-        return SM_NAMES.get(octets[3], "5GSM type %02x" % octets[3])
-    plain = readable(octets)
+        return [session_name(octets)]
     name = None if plain is None else MM_NAMES.get(plain[2], "5GMM type %02x" % plain[2])
+    inner = session_message(plain) if plain is not None else None
+    lines = [] if inner is None else [session_name(inner)]
     if header_type(octets) not in (1, 2, 3, 4) or len(octets) < 7:
-        return name or "%d octets" % len(octets)
+        return [name or "%d octets" % len(octets)] + lines
     head = "header type %d, sn %d" % (header_type(octets), octets[6])
-    return head if name is None else "%s (%s)" % (name, head)
+    return [head if name is None else "%s (%s)" % (name, head)] + lines
+
+
+def session_message(plain):
+    """The 5GSM message that a transport message holds in its container, or None."""
+    if plain[2] not in TRANSPORT_TYPES or len(plain) < 6 or plain[3] & 0x0F != CONTAINER_OF_SESSION:
+        return None
+    inner = plain[6:6 + int.from_bytes(plain[4:6], "big")]
+    return inner if len(inner) >= 4 and inner[0] == EXTENDED_SM else None
+
+
+def session_name(octets):
+    """A 5GSM message's name and its two identities."""
+    return "%s, PSI %d, PTI %d" % (SM_NAMES.get(octets[3], "5GSM type %02x" % octets[3]), octets[1], octets[2])
 
 
 def direction_of(octets):

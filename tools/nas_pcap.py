@@ -1,12 +1,13 @@
 """Captures of exported PDUs: what Wireshark takes as NAS of 5GS by itself, since each packet names its dissector.
 
 A packet is a list of tags, each a number and a length of two octets and a value, ended by the tag 0, and then the
-message. The addresses are of the block that is kept for documents (RFC 5737); they tell the handset from the network.
+message. The addresses are of the blocks that are kept for documents (RFC 5737); they tell the handsets and the network apart.
 """
 import struct
 from typing import NamedTuple, Optional
 
-from nas_transcript import Fault
+from nas_command import Fault
+from nas_transcript import MOST_HANDSETS
 
 MAGIC = 0xA1B2C3D4              # times in microseconds
 MAGIC_OF_NANOSECONDS = 0xA1B23C4D
@@ -16,14 +17,24 @@ LAST_SECOND = 0xFFFFFFFF
 
 TAG_END, TAG_DISSECTOR, TAG_SOURCE, TAG_DESTINATION = 0, 12, 20, 21
 DISSECTOR = b"nas-5gs"
-HANDSET, NETWORK = bytes((192, 0, 2, 1)), bytes((192, 0, 2, 2))
-ENDS = {"up": (HANDSET, NETWORK), "down": (NETWORK, HANDSET)}
+NETWORK = bytes((198, 51, 100, 1))
+
+
+def ends_of(direction, handset):
+    """The source and the destination of what goes in this direction between a handset and the network."""
+    address = bytes((192, 0, 2, handset))
+    return (address, NETWORK) if direction == "up" else (NETWORK, address)
+
+
+DIRECTIONS = {ends_of(direction, handset): (direction, handset)
+              for direction in ("up", "down") for handset in range(1, MOST_HANDSETS + 1)}
 
 
 class Packet(NamedTuple):
-    """A packet that was read: the message and its direction where that can be told, or why there is no message."""
+    """A packet that was read: the message, with its direction and its handset where that can be told; or why there is none."""
     octets: Optional[bytes]
-    direction: Optional[str]
+    direction: Optional[str] = None
+    handset: int = 1
     why: Optional[str] = None
 
 
@@ -33,11 +44,11 @@ def tag(number, value):
     return struct.pack(">HH", number, len(padded)) + padded
 
 
-def packet_of(direction, octets):
+def packet_of(message):
     """The exported PDU of a message."""
-    source, destination = ENDS[direction]
+    source, destination = ends_of(message.direction, message.handset)
     tags = tag(TAG_DISSECTOR, DISSECTOR) + tag(TAG_SOURCE, source) + tag(TAG_DESTINATION, destination) + tag(TAG_END, b"")
-    return tags + octets
+    return tags + message.octets
 
 
 def capture_of(messages):
@@ -48,8 +59,8 @@ def capture_of(messages):
     for message in messages:
         time = max(time, message.moment)
         if time // 1000 > LAST_SECOND:
-            raise Fault("%s %d: a moment of %d ms, which a capture can't tell" % (message.direction, message.number, time))
-        packet = packet_of(message.direction, message.octets)
+            raise Fault("%s: a moment of %d ms, which a capture can't tell" % (message.name, time))
+        packet = packet_of(message)
         parts.append(struct.pack(">IIII", time // 1000, time % 1000 * 1000, len(packet), len(packet)) + packet)
     return b"".join(parts)
 
@@ -70,7 +81,7 @@ def packets_in(octets):
         place += 16
         if len(octets) - place < size:
             raise Fault("cut in packet %d" % (len(packets) + 1))
-        packets.append(packet_in(octets[place:place + size]) if size == whole else Packet(None, None, "was cut when captured"))
+        packets.append(packet_in(octets[place:place + size]) if size == whole else Packet(None, why="was cut when captured"))
         place += size
     return packets
 
@@ -88,7 +99,7 @@ def packet_in(octets):
     values, place = {}, 0
     while True:
         if len(octets) - place < 4:
-            return Packet(None, None, "has cut tags")
+            return Packet(None, why="has cut tags")
         number, size = struct.unpack(">HH", octets[place:place + 4])
         place += 4 + size
         if number == TAG_END:
@@ -96,7 +107,5 @@ def packet_in(octets):
         values[number] = octets[place - size:place]
     dissector = values.get(TAG_DISSECTOR, b"").rstrip(b"\0")
     if dissector != DISSECTOR:
-        return Packet(None, None, "is of the dissector '%s'" % dissector.decode("ascii", "replace"))
-    ends = (values.get(TAG_SOURCE), values.get(TAG_DESTINATION))
-    direction = next((name for name, those in ENDS.items() if those == ends), None)
-    return Packet(octets[place:], direction)
+        return Packet(None, why="is of the dissector '%s'" % dissector.decode("ascii", "replace"))
+    return Packet(octets[place:], *DIRECTIONS.get((values.get(TAG_SOURCE), values.get(TAG_DESTINATION)), ()))

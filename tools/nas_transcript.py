@@ -1,17 +1,19 @@
-"""Reads the transcript of `nas run`, and holds what the scripts beside this file share: faults, words and files.
+"""Reads the transcript of `nas run`, of both forms.
 
-A transcript is the line `nas transcript 1`, a block of lines for each event, and a line `end`. One that is cut or has
-another line anywhere is refused, so the scripts meet whole transcripts alone.
+A transcript is a first line, a block of lines for each event, and a line `end`. With one handset the first line is
+`nas transcript 1`. With more it is `nas transcript 2`; the line of a message then has the number of its handset too, and the
+lines of the states stand for each handset in order, behind a line `handset N`. A transcript that is cut or has another line
+anywhere is refused, so the scripts meet whole transcripts alone.
 """
-import os
 import re
-import sys
-import tempfile
 from typing import Dict, List, NamedTuple, Optional, Tuple
 
-HEAD = "nas transcript 1"
+from nas_command import Fault, octets_of
+
+HEAD_OF_ONE, HEAD_OF_MANY = "nas transcript 1", "nas transcript 2"
 EVENT = re.compile(r"([1-9][0-9]{0,5}) (\S.*)")
-SENT = re.compile(r"  (up|down) ([1-9][0-9]{0,9}) (\S*)")
+SENT_BY_ONE = re.compile(r"  (up|down) ([1-9][0-9]{0,9}) (\S*)")
+SENT_BY_MANY = re.compile(r"  (up|down) ([1-9]|1[0-6]) ([1-9][0-9]{0,9}) (\S*)")
 REFUSED = re.compile(r"  refused (\w+)")
 NOTHING = re.compile(r"  nothing")
 HANDSET = re.compile(r"  ue (\w+) (idle|connected) (-|[0-9a-f]{8}) (-|[0-7])")
@@ -20,23 +22,22 @@ SESSION = re.compile(r"  psi ([1-9]|1[0-5]) (\w+) (\w+)")
 VERDICTS = re.compile(r"  honest (yes|no) agree (yes|no)")
 END = re.compile(r"end (0|[1-9][0-9]{0,5}) events honest (yes|no) agree (yes|no)")
 OCTETS = re.compile(r"(?:[0-9a-fA-F]{2})+")
-# The lines of a script whose words are read here, by their first word.
+MOST_HANDSETS = 16
+# The lines of a script: the handset that one may name, and those whose words are read here, by their first word.
+NAMED = re.compile(r"on ([1-9]|1[0-6]) (.+)")
 DELIVERY = re.compile(r"to-(net|ue) ([1-9][0-9]{0,9})")
 INJECTION = re.compile(r"inject-(?:net fresh|net|ue) (-|(?:[0-9a-fA-F]{2})+)")
 TICK = re.compile(r"(ue|net)-at ([0-9]{1,16})")
 FORMS = {"to-net": DELIVERY, "to-ue": DELIVERY, "inject-net": INJECTION, "inject-ue": INJECTION, "ue-at": TICK, "net-at": TICK}
-
-
-class Fault(Exception):
-    """Why an input can't be read or an output can't be written, in one line."""
+NETWORK_END = 0         # the network among the ends, which are else the handsets by their numbers
 
 
 class Message(NamedTuple):
-    """A message that was sent: `up` by the handset, `down` by the network, numbered from 1 in each direction."""
+    """A message that was sent: `up` by the handset, `down` by the network, numbered from 1 in each direction for each handset."""
+    name: str           # as the transcript's line begins: `up K`, or with more handsets `up N K`
     direction: str
-    number: int
+    handset: int
     octets: bytes
-    event: int
     moment: int         # of the end that sent it, in milliseconds
 
 
@@ -49,62 +50,67 @@ class Handset(NamedTuple):
 
 
 class Network(NamedTuple):
-    """The network's record of the handset behind an event: the state `none` where the handset is no subscriber."""
+    """The network's record of a handset behind an event: the state `none` where the handset is no subscriber."""
     state: str
     kept: str           # the TMSIs, joined by commas, or `-`
     ksi: str
 
 
-class Event(NamedTuple):
-    """One event of the script and all that the transcript says of it."""
-    number: int
-    line: str                               # the script's line, as it was given
-    delivered: Optional[Tuple[str, int]]    # the direction and number of the message that `to-net` or `to-ue` names
-    injected: Optional[bytes]               # the octets of `inject-net` or `inject-ue`
-    moment: Optional[int]                   # of the end that `ue-at` or `net-at` names, behind it
-    sent: List[Message]
-    refused: Optional[str]
-    nothing: bool
+class Link(NamedTuple):
+    """A handset and what the network has of it, behind an event."""
     handset: Handset
     network: Network
     sessions: Dict[int, Tuple[str, str]]    # for each PSI the handset's word and the network's
+
+
+class Event(NamedTuple):
+    """One event of the script and all that the transcript says of it."""
+    number: int
+    line: str                   # the script's line, as it was given
+    handset: int                # the one that the line names, else the first
+    words: List[str]            # of the line, behind the handset's number
+    delivered: Optional[str]    # the name of the message that is delivered
+    injected: Optional[bytes]   # the octets that are injected
+    moment: Optional[int]       # of the end that `ue-at` or `net-at` names, behind it
+    sent: List[Message]
+    refused: Optional[str]
+    nothing: bool               # whether there was no message of the name to be delivered
+    links: List[Link]           # of all handsets, in order
     honest: bool
     agree: bool
 
-    @property
-    def words(self):
-        """The words of the script's line."""
-        return self.line.split(" ")
 
+class Transcript(NamedTuple):
+    """A whole transcript."""
+    events: List[Event]
+    handsets: int
 
-def messages(events):
-    """All messages that were sent, in the order of the transcript."""
-    return [message for event in events for message in event.sent]
+    def messages(self):
+        """All messages that were sent, in order."""
+        return [message for event in self.events for message in event.sent]
 
 
 def read(name):
-    """The events of the transcript in the file of this name, or a Fault."""
+    """The transcript in the file of this name, or a Fault."""
+    octets = octets_of(name)
     try:
-        with open(name, "rb") as file:
-            octets = file.read()
-    except OSError as error:
-        raise Fault("%s: %s" % (name, error.strerror))
-    try:
-        return events_in(octets)
+        return transcript_in(octets)
     except Fault as fault:
         raise Fault("%s: %s" % (name, fault))
 
 
-def events_in(octets):
-    """The events of the transcript in these octets, or a Fault that names the line."""
+def transcript_in(octets):
+    """The transcript in these octets, or a Fault that names the line."""
     try:
         text = octets.decode("ascii")
     except UnicodeDecodeError as error:
         raise Fault("line %d: an octet above 127, so no transcript" % (octets[:error.start].count(b"\n") + 1))
     lines = Lines(text)
-    if not lines.next_is(HEAD):
-        raise Fault("no transcript: it doesn't begin with '%s'" % HEAD)
-    return Reading(lines).events()
+    if lines.next_is(HEAD_OF_ONE):
+        return Reading(lines, False).transcript()
+    if lines.next_is(HEAD_OF_MANY):
+        return Reading(lines, True).transcript()
+    raise Fault("no transcript: it doesn't begin with '%s' or '%s'" % (HEAD_OF_ONE, HEAD_OF_MANY))
 
 
 class Lines:
@@ -137,14 +143,15 @@ class Lines:
 
 
 class Reading:
-    """What has been read so far: the messages of each direction, and the moment of each end."""
+    """What has been read so far: how many messages each handset has sent and got, and the moment of each end."""
 
-    def __init__(self, lines):
-        self.lines = lines
-        self.sent = {"up": 0, "down": 0}
-        self.moments = {"up": 0, "down": 0}     # of the end that sends in this direction
+    def __init__(self, lines, many):
+        self.lines, self.many = lines, many
+        self.handsets = None            # how many the states of the first event are of
+        self.sent: Dict[Tuple[str, int], int] = {}
+        self.moments: Dict[int, int] = {}
 
-    def events(self):
+    def transcript(self):
         """The events up to the line `end`, behind which nothing may stand."""
         events = []
         end = self.lines.take(END)
@@ -155,61 +162,89 @@ class Reading:
             raise Fault("line %d: the end of %s events behind %d" % (self.lines.place, end[1], len(events)))
         if not self.lines.all_taken():
             raise Fault("line %d: more behind the end" % (self.lines.place + 1))
-        return events
+        return Transcript(events, self.handsets or (2 if self.many else 1))
 
     def event(self, number):
         """The block of the event of this number."""
         head = self.lines.want(EVENT, "event %d or the end" % number)
         if int(head[1]) != number:
             raise Fault("line %d: event %s where %d is due" % (self.lines.place, head[1], number))
-        delivered, injected, moment = self.words_of(head[2])
-        sent = self.messages(number)
+        named = NAMED.fullmatch(head[2])
+        handset, line = (int(named[1]), named[2]) if named else (1, head[2])
+        delivered, injected, moment = self.words_of(handset, line)
+        sent = self.messages()
         refused = self.lines.take(REFUSED)
         nothing = self.lines.take(NOTHING) is not None
-        handset = Handset(*self.lines.want(HANDSET, "the handset's line of event %d" % number).groups())
-        network = Network(*self.lines.want(NETWORK, "the network's line of event %d" % number).groups())
-        sessions = self.sessions()
+        links = self.links(number)
+        if any(message.handset > len(links) for message in sent):
+            raise Fault("line %d: event %d has a message of another handset than these" % (self.lines.place, number))
         verdicts = self.lines.want(VERDICTS, "the verdicts of event %d" % number)
-        return Event(number, head[2], delivered, injected, moment, sent, refused and refused[1], nothing, handset, network,
-                     sessions, verdicts[1] == "yes", verdicts[2] == "yes")
+        return Event(number, head[2], handset, line.split(" "), delivered, injected, moment, sent, refused and refused[1], nothing,
+                     links, verdicts[1] == "yes", verdicts[2] == "yes")
 
-    def words_of(self, line):
+    def words_of(self, handset, line):
         """What a script's line delivers, what it injects, and which moment it gives to its end; None for what it doesn't."""
         form = FORMS.get(line.split(" ")[0])
         match = form and form.fullmatch(line)
         if form and not match:
             raise Fault("line %d: '%s' is no line of a script" % (self.lines.place, line[:40]))
         if form is DELIVERY:
-            return ("up" if match[1] == "net" else "down", int(match[2])), None, None
+            return self.name_of("up" if match[1] == "net" else "down", handset, int(match[2])), None, None
         if form is INJECTION:
             return None, b"" if match[1] == "-" else bytes.fromhex(match[1]), None
         if form is TICK:
-            return None, None, self.pass_moment("up" if match[1] == "ue" else "down", int(match[2]))
+            return None, None, self.pass_moment(handset if match[1] == "ue" else NETWORK_END, int(match[2]))
         return None, None, None
 
-    def pass_moment(self, direction, moment):
-        """The moment of the end that sends in this direction becomes this one, but never falls."""
-        self.moments[direction] = max(self.moments[direction], moment)
-        return self.moments[direction]
+    def name_of(self, direction, handset, number):
+        """The name of a message, as its line begins."""
+        return "%s %d %d" % (direction, handset, number) if self.many else "%s %d" % (direction, number)
 
-    def messages(self, event):
-        """The messages that the event of this number sent."""
+    def pass_moment(self, end, moment):
+        """The moment of this end becomes this one, but never falls."""
+        self.moments[end] = max(self.moments.get(end, 0), moment)
+        return self.moments[end]
+
+    def messages(self):
+        """The messages that an event sent."""
+        form = SENT_BY_MANY if self.many else SENT_BY_ONE
         sent = []
-        match = self.lines.take(SENT)
+        match = self.lines.take(form)
         while match is not None:
-            sent.append(self.message(match, event))
-            match = self.lines.take(SENT)
+            direction, *handset, number, digits = match.groups()
+            sent.append(self.message(direction, int(handset[0]) if handset else 1, int(number), digits))
+            match = self.lines.take(form)
         return sent
 
-    def message(self, match, event):
-        """The message of a line `up` or `down`, whose number must be the next of its direction."""
-        direction, number = match[1], int(match[2])
-        self.sent[direction] += 1
-        if number != self.sent[direction]:
-            raise Fault("line %d: %s %d where %d is due" % (self.lines.place, direction, number, self.sent[direction]))
-        if not OCTETS.fullmatch(match[3]):
+    def message(self, direction, handset, number, digits):
+        """A message, whose number must be the next of its direction and handset."""
+        due = self.sent.get((direction, handset), 0) + 1
+        name = self.name_of(direction, handset, number)
+        if number != due:
+            raise Fault("line %d: %s where %s is due" % (self.lines.place, name, self.name_of(direction, handset, due)))
+        if not OCTETS.fullmatch(digits):
             raise Fault("line %d: octets that are no even number of hex digits" % self.lines.place)
-        return Message(direction, number, bytes.fromhex(match[3]), event, self.moments[direction])
+        self.sent[direction, handset] = due
+        moment = self.moments.get(handset if direction == "up" else NETWORK_END, 0)
+        return Message(name, direction, handset, bytes.fromhex(digits), moment)
+
+    def links(self, number):
+        """The states of all handsets behind the event of this number, which are as many as behind the first."""
+        if not self.many:
+            return [self.link("event %d" % number)]
+        links = []
+        while self.lines.next_is("  handset %d" % (len(links) + 1)):
+            links.append(self.link("handset %d in event %d" % (len(links) + 1, number)))
+        if not 2 <= len(links) <= MOST_HANDSETS or len(links) != (self.handsets or len(links)):
+            raise Fault("line %d: event %d with the states of %d handsets" % (self.lines.place + 1, number, len(links)))
+        self.handsets = len(links)
+        return links
+
+    def link(self, where):
+        """The states of one handset."""
+        handset = Handset(*self.lines.want(HANDSET, "the handset's line of %s" % where).groups())
+        network = Network(*self.lines.want(NETWORK, "the network's line of %s" % where).groups())
+        return Link(handset, network, self.sessions())
 
     def sessions(self):
         """The lines `psi`, by PSI."""
@@ -219,47 +254,3 @@ class Reading:
             sessions[int(match[1])] = (match[2], match[3])
             match = self.lines.take(SESSION)
         return sessions
-
-
-def write_whole(name, octets):
-    """Writes a file whole or not at all: to a file beside it, which then takes its name."""
-    name = os.path.realpath(name)
-    if os.path.exists(name) and not os.path.isfile(name):
-        raise Fault("%s: no regular file" % name)
-    beside = None
-    try:
-        handle, beside = tempfile.mkstemp(dir=os.path.dirname(name), prefix=os.path.basename(name) + ".")
-        with os.fdopen(handle, "wb") as file:
-            file.write(octets)
-        os.chmod(beside, 0o666 & ~current_umask())
-        os.replace(beside, name)
-    except OSError as error:
-        if beside is not None and os.path.exists(beside):
-            os.unlink(beside)
-        raise Fault("%s: %s" % (name, error.strerror))
-
-
-def current_umask():
-    """The rights that a new file of this process doesn't get."""
-    mask = os.umask(0)
-    os.umask(mask)
-    return mask
-
-
-def run(tool, usage, purpose, count):
-    """Runs a script on its words, of which it wants this number; ends with 1 and one line where they or its input are wrong."""
-    words = sys.argv[1:]
-    if "--help" in words:
-        print("usage: %s\n%s" % (usage, purpose))
-        sys.exit(0)
-    try:
-        if len(words) != count:
-            raise Fault("usage: %s" % usage)
-        tool(*words)
-        sys.stdout.flush()
-    except Fault as fault:
-        sys.exit("%s: %s" % (os.path.basename(sys.argv[0]), fault))
-    except OSError as error:
-        # What is left in the buffer would fail once more at the end.
-        os.dup2(os.open(os.devnull, os.O_WRONLY), sys.stdout.fileno())
-        sys.exit("%s: %s" % (os.path.basename(sys.argv[0]), error.strerror))

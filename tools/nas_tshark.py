@@ -3,8 +3,8 @@ import json
 import shutil
 import subprocess
 
-from nas_pcap import HANDSET, NETWORK, Packet
-from nas_transcript import Fault
+from nas_command import Fault
+from nas_pcap import DIRECTIONS, Packet
 
 AMF_PORT = "38412"      # the SCTP port of NGAP at an AMF (TS 38.412)
 # The NGAP procedures whose messages hold a NAS message, by the direction of that message (TS 38.413 clause 9.2).
@@ -35,10 +35,10 @@ def packets_of(frame):
     gather(frame, facts, messages)
     lengths = [[value for key, value in facts if key == name] for name in ("frame.cap_len", "frame.len")]
     if lengths[0] != lengths[1]:
-        return [Packet(None, None, "was cut when captured")]
+        return [Packet(None, why="was cut when captured")]
     if not messages:
-        return [Packet(None, None, "shows no octets of its NAS message")]
-    return [Packet(octets, direction_by(facts)) for octets in messages]
+        return [Packet(None, why="shows no octets of its NAS message")]
+    return [Packet(octets, *direction_by(facts)) for octets in messages]
 
 
 def gather(value, facts, messages):
@@ -59,18 +59,22 @@ def gather(value, facts, messages):
 
 
 def direction_by(facts):
-    """`up` or `down` by the first sort of witness that says just one of them: our own addresses, the NGAP procedure, the port."""
-    for uplink, downlink in ((own_addresses(HANDSET), own_addresses(NETWORK)), (procedures(UPLINK_PROCEDURES),
-                             procedures(DOWNLINK_PROCEDURES)), (ports("dst"), ports("src"))):
+    """The direction, and the handset where our own addresses tell it; else the direction by the first sort of witness that says
+    just one: the NGAP procedure, the port."""
+    own = DIRECTIONS.get((address_in(facts, "src"), address_in(facts, "dst")))
+    if own:
+        return own
+    for uplink, downlink in ((procedures(UPLINK_PROCEDURES), procedures(DOWNLINK_PROCEDURES)), (ports("dst"), ports("src"))):
         said = {name for name, those in (("up", uplink), ("down", downlink)) if those.intersection(facts)}
         if len(said) == 1:
-            return said.pop()
-    return None
+            return (said.pop(),)
+    return ()
 
 
-def own_addresses(source):
-    """The fact of a packet that `to-pcap` wrote, by its source."""
-    return {("exported_pdu.ipv4_src", ".".join(str(octet) for octet in source))}
+def address_in(facts, side):
+    """The address of the source (`src`) or the destination (`dst`) that an exported PDU names, or None."""
+    texts = [value for key, value in facts if key == "exported_pdu.ipv4_" + side]
+    return bytes(int(part) for part in texts[0].split(".")) if len(texts) == 1 else None
 
 
 def procedures(codes):
