@@ -75,7 +75,7 @@ def compared(events, again, bare):
         if not alike(event_again, event_bare):
             return Inside(ciphered, event.number, CIPHERING_CHANGES)
         ciphered.update((message.octets, message_bare.octets[7:]) for message, message_bare in zip(event.sent, event_bare.sent)
-                        if nas_names.header_type(message.octets) in (2, 4))
+                        if nas_names.is_ciphered(message.octets))
     return Inside(ciphered)
 
 
@@ -130,7 +130,7 @@ def same_message(octets, bare):
         return False
     if header in (1, 3):
         return without_ciphering(octets[7:]) == bare[7:]
-    return len(octets) == len(bare) and nas_names.header_type(bare[7:]) == 0
+    return len(octets) == len(bare) and nas_names.is_plain(bare[7:])
 
 
 def without_ciphering(plain):

@@ -35,14 +35,21 @@ def header_type(octets):
     return octets[1] & 0x0F if len(octets) >= 2 and octets[0] == EXTENDED_MM else None
 
 
+def is_plain(octets):
+    """Whether these octets are a plain 5GMM message, as far as to its type."""
+    return header_type(octets) == 0 and len(octets) >= 3
+
+
+def is_ciphered(octets):
+    """Whether the security header type says that these octets are ciphered."""
+    return header_type(octets) in (2, 4)
+
+
 def readable(octets):
     """The plain 5GMM message that can be read without a key: the message itself, or what header types 1 and 3 (not ciphered)
     hold; or None."""
-    header = header_type(octets)
-    if header in (1, 3):
-        octets = octets[7:]
-        header = header_type(octets)
-    return octets if header == 0 and len(octets) >= 3 else None
+    plain = octets[7:] if header_type(octets) in (1, 3) else octets
+    return plain if is_plain(plain) else None
 
 
 def lines_of(octets, plain):
