@@ -9,97 +9,36 @@ import sys
 import tempfile
 import xml.etree.ElementTree as xml
 
+from tools_helpers import SVG, ends_of, expect, packet_of, packets_in, refused, run, sent_in, texts_in, transcript_of
+from tools_inside import try_inside, try_inside_of_run
+from tools_texts import (BY_HAND, BY_HAND_OF_MANY, CONNECTED, IDS_BY_HAND, IDS_OF_MANY, MOMENTS_BY_HAND, MOMENTS_OF_MANY, SHOWN_BY_HAND,
+                         SHOWN_OF_MANY, UNKNOWN)
+
 PROGRAM = "crates/nas_cli/out/nas_cli"
 MODEL = os.environ.get("NAS_MODEL", "")
 TSHARK = shutil.which("tshark")
-SVG = "{http://www.w3.org/2000/svg}"
-
-STATES = "  ue %s - -\n  net Registered - -\n  honest %s agree %s\n"
-CONNECTED, IDLE = STATES % ("Registering connected", "yes", "yes"), STATES % ("Deregistered idle", "yes", "yes")
-FORGED, APART = STATES % ("Registering connected", "no", "yes"), STATES % ("Registering connected", "no", "no")
-REQUEST = "7e004179000d0100f110f0ff000000000000102e02a020"
-# Each thing that a chart shows, a line of no kind that is known here too. Two moments are below their end's own, and one message
-# holds another.
-BY_HAND = ("nas transcript 1\n"
-           "1 ue-at 1500\n" + IDLE +
-           "2 ue-at 100\n" + IDLE +
-           "3 register\n  up 1 " + REQUEST + "\n" + CONNECTED +
-           "4 register\n  refused WrongState\n" + CONNECTED +
-           "5 to-net 1\n  down 1 7e005b01\n" + CONNECTED +
-           "6 to-net 1\n  down 2 7e005b01\n" + CONNECTED +
-           "7 to-ue 7\n  nothing\n" + CONNECTED +
-           "8 net-at 6000\n  down 3 7e0299999999077e00\n" + CONNECTED +
-           "9 net-at 5\n  down 4 7e0399999999087e005d220002a020\n" + CONNECTED +
-           "10 to-ue 4\n  up 2 7e0199999999fe7e005e710017" + REQUEST + "\n" + CONNECTED +
-           "11 ue-at 7001\n  up 3 7e0199999999ff7e004c000007f4004000000001\n" + CONNECTED +
-           "12 inject-net fresh 7e004501000bf200f11002004000000001\n" + CONNECTED +
-           "13 inject-ue -\n" + FORGED +
-           "14 drop-ue\n" + FORGED + "15 drop-net\n" + FORGED + "16 restart\n" + FORGED +
-           "17 of a kind <unknown> & later\n" + APART +
-           "end 17 events honest no agree no\n")
-MOMENTS_BY_HAND = [1500, 1500, 1500, 6000, 6000, 6000, 7001]
-SHOWN_BY_HAND = ["up 1: REGISTRATION REQUEST", "refused: WrongState", "down 1: IDENTITY REQUEST", "again: up 1",
-                 "nothing: down 7 isn't sent yet", "down 3: header type 2, sn 7, by a timer",
-                 "down 4: SECURITY MODE COMMAND (header type 3, sn 8), by a timer",
-                 "up 2: SECURITY MODE COMPLETE (header type 1, sn 254)",
-                 "up 3: SERVICE REQUEST (header type 1, sn 255), by a timer", "injected fresh: DEREGISTRATION REQUEST",
-                 "injected: 0 octets", "from event 13 on: honest no", "from event 17 on: agree no", "restart", "at 7001 ms",
-                 "17  of a kind <unknown> & later"]
-IDS_BY_HAND = ["up-1", "up-2", "up-3", "down-1", "down-2", "down-3", "down-4", "up-1-again-6", "injected-12", "injected-13"]
-
-
-def expect(what, wanted, found):
-    """Ends with 1 where something else was found."""
-    if wanted != found:
-        print("tools: %s: wanted %r, found %r" % (what, wanted, found))
-        sys.exit(1)
-
-
-def run(tool, *words, **variables):
-    """A script's end, with these variables in its environment: status, standard output, standard error."""
-    environment = dict(os.environ, PYTHONDONTWRITEBYTECODE="1", **variables)
-    done = subprocess.run([sys.executable, "tools/" + tool] + list(words), capture_output=True, text=True, env=environment)
-    return done.returncode, done.stdout, done.stderr
-
-
-def sent_in(transcript):
-    """The direction, number and hex digits of each message of a transcript."""
-    return re.findall(r"(?m)^  (up|down) ([0-9]+) ([0-9a-f]+)$", transcript)
-
-
-def packets_in(name):
-    """The times in milliseconds and the octets of a capture's packets."""
-    with open(name, "rb") as file:
-        octets = file.read()
-    head = struct.unpack(">IHHiIII", octets[:24])
-    expect("head of %s" % name, (0xA1B2C3D4, 2, 4, 252), head[:3] + head[6:])
-    packets, place = [], 24
-    while place < len(octets):
-        seconds, micros, size, whole = struct.unpack(">IIII", octets[place:place + 16])
-        expect("size of a packet of %s" % name, size, whole)
-        packets.append((seconds * 1000 + micros // 1000, octets[place + 16:place + 16 + size]))
-        place += 16 + size
-    return packets
 
 
 def lines_for(sent):
-    """The lines of a script that inject these messages."""
-    lines, fresh = [], "fresh "
-    for direction, _, octets in sent:
-        lines.append(("inject-net " + fresh if direction == "up" else "inject-ue ") + octets)
-        fresh = "" if direction == "up" else fresh
+    """The lines of a script that inject messages of these directions, handsets and octets."""
+    lines, begun = [], set()
+    for direction, handset, octets in sent:
+        fresh = "" if handset in begun else "fresh "
+        begun.update([handset] if direction == "up" else [])
+        line = ("inject-net " + fresh if direction == "up" else "inject-ue ") + octets
+        lines.append("on %d %s" % (handset, line) if handset > 1 else line)
     return lines
 
 
 def try_transcript(name, text, folder, readable=False):
-    """All three scripts on one transcript. Where it is readable, nothing in it is enciphered."""
+    """All three scripts on one transcript. Where it is readable, nothing in it is ciphered."""
     files = [os.path.join(folder, file) for file in ("in.transcript", "out.pcap", "out.svg")]
     with open(files[0], "w") as file:
         file.write(text)
     sent = sent_in(text)
     expect("to-pcap of " + name, (0, "", ""), run("to-pcap", *files[:2]))
-    expect("packets of " + name, [octets for _, _, octets in sent],
-           [packet[32:].hex() for _, packet in packets_in(files[1])])
+    expect("packets of " + name, [packet_of(*message[1:]) for message in sent],
+           [packet.hex() for _, packet in packets_in(files[1])])
     try_back(name, sent, files[1])
     if TSHARK:
         try_tshark(name, sent, files[1], readable)
@@ -110,7 +49,7 @@ def try_transcript(name, text, folder, readable=False):
 
 def try_back(name, sent, capture):
     """The messages come back from their capture, with tshark and without."""
-    wanted = (0, "".join(line + "\n" for line in lines_for(sent)), "")
+    wanted = (0, "".join(line + "\n" for line in lines_for([message[1:] for message in sent])), "")
     if not sent:
         wanted = (1, "", "from-pcap: %s: no NAS message in it\n" % capture)
     expect("from-pcap of %s without tshark" % name, wanted, run("from-pcap", capture, PATH=""))
@@ -127,14 +66,13 @@ def tshark(capture, *words):
 
 def try_tshark(name, sent, capture, readable):
     """tshark takes each packet as NAS of 5GS, from the right end, and none as malformed; each is named where it is readable."""
-    addresses = {"up": "192.0.2.1", "down": "192.0.2.2"}
     words = ["-o", "nas-5gs.null_decipher:TRUE"] if readable else []
-    words += ["-Y", "nas-5gs && !_ws.malformed", "-T", "fields", "-e", "frame.number", "-e", "ip.src", "-e", "_ws.col.Info"]
+    words += ["-Y", "nas-5gs && !_ws.malformed", "-T", "fields", "-e", "frame.number", "-e", "ip.src", "-e", "ip.dst", "-e", "_ws.col.Info"]
     fields = [line.split("\t") for line in tshark(capture, *words)]
-    wanted = [[str(place + 1), addresses[end]] for place, (end, _, _) in enumerate(sent)]
-    expect("tshark's reading of " + name, wanted, [field[:2] for field in fields])
+    wanted = [[str(place + 1), *ends_of(direction, handset)] for place, (_, direction, handset, _) in enumerate(sent)]
+    expect("tshark's reading of " + name, wanted, [field[:3] for field in fields])
     if readable:
-        expect("messages without a name in " + name, [], [field[0] for field in fields if not field[2].strip()])
+        expect("messages without a name in " + name, [], [field[0] for field in fields if not field[3].strip()])
 
 
 def try_chart(name, sent, chart):
@@ -143,25 +81,32 @@ def try_chart(name, sent, chart):
     expect("chart of " + name, (SVG + "svg", "1.1"), (root.tag, root.get("version")))
     ids = [element.get("id") for element in root.iter() if element.get("id")]
     expect("identities in the chart of " + name, len(set(ids)), len(ids))
-    expect("messages in the chart of " + name, sorted("%s-%s" % message[:2] for message in sent),
-           sorted(identity for identity in ids if re.fullmatch("(up|down)-[0-9]+", identity)))
-    labels = [element.text for element in root.iter(SVG + "text")]
-    for direction, number, _ in sent:
-        begin = "%s %s: " % (direction, number)
+    expect("messages in the chart of " + name, sorted(message[0].replace(" ", "-") for message in sent),
+           sorted(identity for identity in ids if re.fullmatch("(up|down)(-[0-9]+)+", identity)))
+    labels = texts_in(chart)
+    for message in sent:
+        begin = message[0] + ": "
         expect("'%s' in the chart of %s" % (begin, name), 1, len([label for label in labels if label.startswith(begin)]))
 
 
 def try_by_hand(folder):
-    """A transcript with each thing that a chart shows, and the times of its packets."""
-    files = try_transcript("the transcript by hand", BY_HAND, folder)
-    expect("times by hand", MOMENTS_BY_HAND, [time for time, _ in packets_in(files[1])])
-    root = xml.parse(files[2]).getroot()
-    labels = [element.text for element in root.iter(SVG + "text")]
-    expect("texts by hand", [], [text for text in SHOWN_BY_HAND if text not in labels])
+    """Transcripts of both forms with each thing that a chart shows, and the times of their packets."""
+    labels = try_written("the transcript by hand", BY_HAND, MOMENTS_BY_HAND, SHOWN_BY_HAND, IDS_BY_HAND, folder)
     expect("lost connections by hand", 2, labels.count("connection lost"))
     expect("moments of the handset by hand", 2, labels.count("at 1500 ms"))
-    ids = [element.get("id") for element in root.iter(SVG + "g") if element.get("id")]
-    expect("identities by hand", sorted(IDS_BY_HAND), sorted(ids))
+    labels = try_written("the transcript of many", BY_HAND_OF_MANY, MOMENTS_OF_MANY, SHOWN_OF_MANY, IDS_OF_MANY, folder)
+    expect("states of both handsets", 2, labels.count("Deregistered, idle") - 1)
+
+
+def try_written(name, text, moments, shown, ids, folder):
+    """A transcript whose chart has these texts and identities. The answer are all texts of the chart."""
+    files = try_transcript(name, text, folder)
+    expect("times of " + name, moments, [time for time, _ in packets_in(files[1])])
+    labels = texts_in(files[2])
+    expect("texts of " + name, [], [text for text in shown if text not in labels])
+    groups = xml.parse(files[2]).getroot().iter(SVG + "g")
+    expect("identities of " + name, sorted(ids), sorted(element.get("id") for element in groups if element.get("id")))
+    return labels
 
 
 def try_faults(folder):
@@ -172,8 +117,16 @@ def try_faults(folder):
              "odd digits": BY_HAND.replace("7e005b01\n", "7e005b0\n"), "no digits": BY_HAND.replace("inject-ue -", "inject-ue x"),
              "a message missing": BY_HAND.replace("  down 1 7e005b01\n", ""),
              "an event missing": BY_HAND.replace("4 register\n  refused WrongState\n" + CONNECTED, ""),
-             "more behind the end": BY_HAND + "\n", "another end": BY_HAND.replace("end 17", "end 16"),
-             "an octet above 127": BY_HAND.replace("restart", "r\u00e9start")}
+             "more behind the end": BY_HAND + "\n", "another end": BY_HAND.replace("end 19", "end 18"),
+             "an octet above 127": BY_HAND.replace("restart", "r\u00e9start"), "a third form": BY_HAND.replace("script 1", "script 3"),
+             "one handset in the form of more": BY_HAND.replace("transcript 1", "transcript 2"),
+             "more handsets in the form of one": BY_HAND_OF_MANY.replace("transcript 2", "transcript 1"),
+             "a handset missing": BY_HAND_OF_MANY.replace("  handset 3\n" + UNKNOWN, "", 1),
+             "a handset missing later": cut_behind(BY_HAND_OF_MANY, "9 on 2 to-ue 2", "  handset 3\n" + UNKNOWN),
+             "handsets in another order": BY_HAND_OF_MANY.replace("  handset 2\n", "  handset 3\n", 1),
+             "one handset alone": "nas transcript 2\n1 register\n  handset 1\n" + CONNECTED + "end 1 events honest yes agree yes\n",
+             "a message of no handset": BY_HAND_OF_MANY.replace("  up 2 2 ", "  up 4 1 "),
+             "another number of a handset's message": BY_HAND_OF_MANY.replace("  up 2 2 ", "  up 2 3 ")}
     place, out = os.path.join(folder, "wrong"), os.path.join(folder, "kept")
     with open(out, "w") as file:
         file.write("as it was")
@@ -190,6 +143,12 @@ def try_faults(folder):
     try_wrong_captures(folder, place)
 
 
+def cut_behind(text, begin, piece):
+    """A text without this piece where it comes first behind a line."""
+    head, tail = text.split(begin)
+    return head + begin + tail.replace(piece, "", 1)
+
+
 def try_wrong_captures(folder, place):
     """Captures that are none, are cut, or are of another link type, which only tshark reads."""
     files = try_transcript("the transcript by hand", BY_HAND, folder)
@@ -204,12 +163,6 @@ def try_wrong_captures(folder, place):
         if TSHARK and what != "Ethernet":
             refused("from-pcap by tshark on " + what, run("from-pcap", place))
     refused("from-pcap on no file", run("from-pcap", place + "-none"))
-
-
-def refused(what, ended):
-    """A script ended with 1, one line on standard error, and nothing else."""
-    expect("end of " + what, (1, "", 1, True), (ended[0], ended[1], ended[2].count("\n"), ended[2].endswith("\n")))
-    expect("no trace of Python in " + what, False, "Traceback" in ended[2])
 
 
 def ngap_packet(number, procedure, source, destination, message):
@@ -266,13 +219,13 @@ def try_short(folder):
 
 
 def try_inner(folder):
-    """A message that holds another is one message, also for a tshark whose user lets it read what isn't enciphered."""
+    """A message that holds another is one message, also for a tshark whose user lets it read what isn't ciphered."""
     files = try_transcript("the transcript by hand", BY_HAND, folder)
     settings = os.path.join(folder, "settings")
     os.mkdir(settings)
     with open(os.path.join(settings, "preferences"), "w") as file:
         file.write("nas-5gs.null_decipher: TRUE\n")
-    wanted = "".join(line + "\n" for line in lines_for(sent_in(BY_HAND)))
+    wanted = "".join(line + "\n" for line in lines_for([message[1:] for message in sent_in(BY_HAND)]))
     expect("from-pcap with settings", (0, wanted, ""), run("from-pcap", files[1], WIRESHARK_CONFIG_DIR=settings))
 
 
@@ -284,15 +237,8 @@ def try_ngap(folder):
     packets = [ngap_packet(number, procedure, source, destination, bytes.fromhex(octets))
                for number, (_, procedure, source, destination, octets) in enumerate(sent)]
     write_capture(place, 228, packets)
-    wanted = "".join(line + "\n" for line in lines_for([(direction, 0, octets) for direction, _, _, _, octets in sent]))
+    wanted = "".join(line + "\n" for line in lines_for([(direction, 1, octets) for direction, _, _, _, octets in sent]))
     expect("from-pcap of NGAP by tshark", (0, wanted, ""), run("from-pcap", place))
-
-
-def transcript_of(command, configuration, script):
-    """The transcript that a program writes of a run."""
-    done = subprocess.run(command + ["run", configuration, script], capture_output=True, text=True)
-    expect("status of %s on %s" % (command[-1], script), 0, done.returncode)
-    return done.stdout
 
 
 def configuration_of(script):
@@ -301,28 +247,69 @@ def configuration_of(script):
     return own if os.path.isfile(own) else os.path.join(os.path.dirname(script), "registration.toml")
 
 
-def try_runs(command, scripts, folder):
+def try_runs(program, scripts, folder):
     """The scripts with their configurations, as they are and without ciphering."""
     for script in scripts:
         configuration = configuration_of(script)
         plain = os.path.join(folder, "plain.toml")
         with open(configuration) as file, open(plain, "w") as copy:
             copy.write(file.read().replace("ciphering = 2", "ciphering = 0"))
-        for chosen, readable in ((configuration, False), (plain, True)):
-            name = "%s by %s%s" % (script, command[-1], " without ciphering" if readable else "")
-            try_transcript(name, transcript_of(command, chosen, script), folder, readable)
+        for chosen, readable in ((plain, True), (configuration, False)):
+            name = "%s by %s%s" % (script, program, " without ciphering" if readable else "")
+            try_transcript(name, transcript_of(program, chosen, script), folder, readable)
+        if os.path.isfile(MODEL):
+            try_inside_of_run(name, (configuration, script), program, sent_by_model(configuration, script), folder)
     return len(scripts)
 
 
-def try_picture(rows, folder):
+def sent_by_model(configuration, script):
+    """The messages of a run by the model: each with its event, its octets and its plain message, in hex digits."""
+    sys.path.insert(0, os.path.dirname(os.path.abspath(MODEL)))
+    import nas_script
+    import nas_world
+    with open(configuration, "rb") as file:
+        world = nas_world.World(nas_script.read_config(file.read()))
+    with open(script, "rb") as file:
+        events = nas_script.read_script(file.read())
+    return [(place + 1, message.octets.hex(), message.plain.hex())
+            for place, (event, _) in enumerate(events) for _, _, _, message in world.step(event).sends]
+
+
+def try_runs_of_many(program, folder):
+    """Runs of two and of sixteen handsets that all register, each one's events beside the others', and of one that isn't there."""
+    with open("examples/registration.toml") as file:
+        network, subscriber, handset = re.split(r"(?m)^(?=\[\[)", file.read())
+    with open("examples/registration.script") as file:
+        lines = [line for line in file.read().splitlines()[2:]]
+    for count in (2, 16):
+        script, configuration = (os.path.join(folder, "many." + end) for end in ("script", "toml"))
+        with open(configuration, "w") as file:
+            file.write(network + "".join(table.replace("0000001", "%07d" % place) for table in (subscriber, handset)
+                                         for place in range(1, count + 1)))
+        with open(script, "w") as file:
+            file.write("".join("on %d %s\n" % (place, line) for line in lines + ["establish 1 ipv4 internet", "to-net 5", "to-ue 4"]
+                               for place in range(1, count + 1)) + ("on 16 service\nnet-at 1\nnet-authenticate\n"))
+        try_runs(program, [script], folder)
+    return 2
+
+
+def try_picture(program, rows, folder):
     """The picture of the guide is what ladder draws of the model's clean run."""
     script = os.path.join(rows, "clean-run.script")
     if not os.path.isfile(script):
         return
-    text = transcript_of([sys.executable, MODEL], script[:-len("script")] + "toml", script)
-    files = try_transcript("the clean run", text, folder)
-    with open(files[2]) as drawn, open("docs/pictures/clean-run.svg") as kept:
+    try_runs(program, [script], folder)
+    with open(os.path.join(folder, "inside.svg")) as drawn, open("docs/pictures/clean-run.svg") as kept:
         expect("docs/pictures/clean-run.svg as tools/ladder draws it", True, drawn.read() == kept.read())
+
+
+def model_as_program(folder):
+    """A program that runs the model."""
+    place = os.path.join(folder, "model")
+    with open(place, "w") as file:
+        file.write('#!/bin/sh\nexec "%s" "%s" "$@"\n' % (sys.executable, os.path.abspath(MODEL)))
+    os.chmod(place, 0o700)
+    return place
 
 
 def main():
@@ -330,6 +317,7 @@ def main():
     with tempfile.TemporaryDirectory() as folder:
         try_by_hand(folder)
         try_faults(folder)
+        try_inside(folder)
         try_others(folder)
         try_short(folder)
         if TSHARK:
@@ -337,16 +325,17 @@ def main():
             try_ngap(folder)
         examples, runs = sorted(glob.glob("examples/*.script")), 0
         if os.access(PROGRAM, os.X_OK):
-            runs += try_runs(["./nas"], examples, folder)
+            runs += try_runs("./nas", examples, folder)
         else:
             print("tools: the examples' runs by the program are skipped, %s isn't built" % PROGRAM)
         if os.path.isfile(MODEL):
-            rows = os.path.join(os.path.dirname(MODEL), "..", "rows")
-            runs += try_runs([sys.executable, MODEL], examples + sorted(glob.glob(os.path.join(rows, "*.script"))), folder)
-            try_picture(rows, folder)
+            rows, model = os.path.join(os.path.dirname(MODEL), "..", "rows"), model_as_program(folder)
+            runs += try_runs(model, examples + sorted(glob.glob(os.path.join(rows, "*.script"))), folder)
+            runs += try_runs_of_many(model, folder)
+            try_picture(model, rows, folder)
         else:
-            print("tools: runs by the model are skipped, NAS_MODEL names none")
-    print("tools: the transcript by hand and %d runs, each with ciphering and without, are as they should be%s"
+            print("tools: runs by the model, and what is inside of ciphered messages in runs, are skipped: NAS_MODEL names none")
+    print("tools: the transcripts by hand and %d runs, each with ciphering and without, are as they should be%s"
           % (runs, "" if TSHARK else "; tshark is missing, so what it reads is skipped"))
 
 

@@ -59,6 +59,8 @@ def told(transcript, configuration, program):
         raise Fault("%s: not one line `ciphering = 0` or `ciphering = 2`" % configuration)
     script = "".join(line_of(event) + "\n" for event in transcript.events).encode("ascii")
     again, bare = (run_of(program, configuration, octets, script) for octets in (text, bare_text))
+    if any(len(run.events) != len(transcript.events) for run in (again, bare)):
+        raise Fault("%s: a transcript with another number of events" % program)
     return compared(transcript.events, again.events, bare.events)
 
 
