@@ -17,6 +17,7 @@ from tools_texts import (BY_HAND, BY_HAND_OF_MANY, CONNECTED, IDS_BY_HAND, IDS_O
 PROGRAM = "crates/nas_cli/out/nas_cli"
 MODEL = os.environ.get("NAS_MODEL", "")
 TSHARK = shutil.which("tshark")
+NULL_CIPHER = ["-o", "nas-5gs.null_decipher:TRUE"]      # the setting for messages that are ciphered with the null algorithm
 
 
 def lines_for(sent):
@@ -41,7 +42,7 @@ def try_transcript(name, text, folder, readable=False):
            [packet.hex() for _, packet in packets_in(files[1])])
     try_back(name, sent, files[1])
     if TSHARK:
-        try_tshark(name, sent, files[1], readable)
+        try_tshark(name, sent, files[1], readable, NULL_CIPHER if readable else [])
     expect("ladder of " + name, (0, "", ""), run("ladder", files[0], files[2]))
     try_chart(name, sent, files[2])
     return files
@@ -64,11 +65,10 @@ def tshark(capture, *words):
     return done.stdout.splitlines()
 
 
-def try_tshark(name, sent, capture, readable):
+def try_tshark(name, sent, capture, readable, settings):
     """tshark takes each packet as NAS of 5GS, from the right end, and none as malformed; each is named where it is readable."""
-    words = ["-o", "nas-5gs.null_decipher:TRUE"] if readable else []
-    words += ["-Y", "nas-5gs && !_ws.malformed", "-T", "fields", "-e", "frame.number", "-e", "ip.src", "-e", "ip.dst", "-e", "_ws.col.Info"]
-    fields = [line.split("\t") for line in tshark(capture, *words)]
+    words = ["-Y", "nas-5gs && !_ws.malformed", "-T", "fields", "-e", "frame.number", "-e", "ip.src", "-e", "ip.dst", "-e", "_ws.col.Info"]
+    fields = [line.split("\t") for line in tshark(capture, *settings, *words)]
     wanted = [[str(place + 1), *ends_of(direction, handset)] for place, (_, direction, handset, _) in enumerate(sent)]
     expect("tshark's reading of " + name, wanted, [field[:3] for field in fields])
     if readable:
@@ -256,9 +256,12 @@ def try_runs(program, scripts, folder):
             copy.write(file.read().replace("ciphering = 2", "ciphering = 0"))
         for chosen, readable in ((plain, True), (configuration, False)):
             name = "%s by %s%s" % (script, program, " without ciphering" if readable else "")
-            try_transcript(name, transcript_of(program, chosen, script), folder, readable)
+            text = transcript_of(program, chosen, script)
+            try_transcript(name, text, folder, readable)
         if os.path.isfile(MODEL):
-            try_inside_of_run(name, (configuration, script), program, sent_by_model(configuration, script), folder)
+            capture, whole = try_inside_of_run(name, (configuration, script), program, sent_by_model(configuration, script), folder)
+            if TSHARK:
+                try_tshark("the inside of " + name, sent_in(text), capture, whole, [])
     return len(scripts)
 
 

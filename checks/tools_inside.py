@@ -116,7 +116,8 @@ def try_faults(folder):
 
 def try_inside_of_run(name, files, program, sent, folder):
     """The inside of a run, whose transcript lies in the folder and whose messages are these by the model: each with its event, its
-    octets and its plain message. What is told is right, and everything is told where nothing was injected."""
+    octets and its plain message. What is told is right, and everything is told where nothing was injected. The answer is the capture,
+    and whether it has everything."""
     configuration, script = files
     _, packets, note = inside_of(name, folder, configuration, program)
     with open(script) as file:
@@ -125,3 +126,4 @@ def try_inside_of_run(name, files, program, sent, folder):
     expect("reason in " + name, INJECTED if injected and note else None, end[1])
     known = [plain if event < end[0] or not is_ciphered(octets) else octets for event, octets, plain in sent]
     expect("packets of the inside of " + name, known, packets)
+    return os.path.join(folder, "inside.pcap"), not note
