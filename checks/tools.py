@@ -94,6 +94,7 @@ def try_by_hand(folder):
     labels = try_written("the transcript by hand", BY_HAND, MOMENTS_BY_HAND, SHOWN_BY_HAND, IDS_BY_HAND, folder)
     expect("lost connections by hand", 2, labels.count("connection lost"))
     expect("moments of the handset by hand", 2, labels.count("at 1500 ms"))
+    expect("session messages by hand", 1, labels.count("PDU SESSION ESTABLISHMENT REQUEST, PSI 7, PTI 1"))
     labels = try_written("the transcript of many", BY_HAND_OF_MANY, MOMENTS_OF_MANY, SHOWN_OF_MANY, IDS_OF_MANY, folder)
     expect("states of both handsets", 2, labels.count("Deregistered, idle") - 1)
 
@@ -117,7 +118,7 @@ def try_faults(folder):
              "odd digits": BY_HAND.replace("7e005b01\n", "7e005b0\n"), "no digits": BY_HAND.replace("inject-ue -", "inject-ue x"),
              "a message missing": BY_HAND.replace("  down 1 7e005b01\n", ""),
              "an event missing": BY_HAND.replace("4 register\n  refused WrongState\n" + CONNECTED, ""),
-             "more behind the end": BY_HAND + "\n", "another end": BY_HAND.replace("end 19", "end 18"),
+             "more behind the end": BY_HAND + "\n", "another end": BY_HAND.replace("end 20", "end 19"),
              "an octet above 127": BY_HAND.replace("restart", "r\u00e9start"), "a third form": BY_HAND.replace("script 1", "script 3"),
              "one handset in the form of more": BY_HAND.replace("transcript 1", "transcript 2"),
              "more handsets in the form of one": BY_HAND_OF_MANY.replace("transcript 2", "transcript 1"),

@@ -106,7 +106,7 @@ def try_faults(folder):
             file.write(text)
         refused("the configuration %r" % text, run("ladder", "--inside", configuration, "--program", program, *words))
     for what, text in (("another run", CIPHERED.replace("7e0422222222", "7e0422222223")),
-                       ("a shorter run", CIPHERED[:CIPHERED.index("6 establish")] + "end 5 events honest yes agree yes\n")):
+                       ("a shorter run", CIPHERED[:CIPHERED.index("7 establish")] + "end 6 events honest yes agree yes\n")):
         with open(os.path.join(folder, "again"), "w") as file:
             file.write(text)
         with open(configuration, "w") as file:

@@ -9,8 +9,8 @@ APART = STATES % "Registering connected" + VERDICTS % ("no", "no")
 REQUEST = "7e004179000d0100f110f0ff000000000000102e02a020"
 ESTABLISHMENT = "7e00670100082e0701c1ffff91a1120781250908696e7465726e6574"     # session 7, transaction 1
 
-# Each thing that a chart shows, a line of no kind that is known here too. Two moments are below their end's own, and one message
-# holds another.
+# Each thing that a chart shows, a line of no kind that is known here too. Two moments are below their end's own, one message holds
+# another, and one has a container of another type than that of session messages.
 BY_HAND = ("nas transcript 1\n"
            "1 ue-at 1500\n" + IDLE +
            "2 ue-at 100\n" + IDLE +
@@ -29,7 +29,8 @@ BY_HAND = ("nas transcript 1\n"
            "17 of a kind <unknown> & later\n" + APART +
            "18 inject-net " + ESTABLISHMENT + "\n" + APART +
            "19 on 2 to-net 1\n  refused NoHandset\n" + APART +
-           "end 19 events honest no agree no\n")
+           "20 inject-net " + ESTABLISHMENT.replace("7e006701", "7e006702") + "\n" + APART +
+           "end 20 events honest no agree no\n")
 MOMENTS_BY_HAND = [1500, 1500, 1500, 6000, 6000, 6000, 7001]
 SHOWN_BY_HAND = ["up 1: REGISTRATION REQUEST", "refused: WrongState", "down 1: IDENTITY REQUEST", "again: up 1",
                  "nothing: down 7 isn't sent yet", "down 3: header type 2, sn 7, by a timer",
@@ -40,7 +41,7 @@ SHOWN_BY_HAND = ["up 1: REGISTRATION REQUEST", "refused: WrongState", "down 1: I
                  "17  of a kind <unknown> & later", "injected: UL NAS TRANSPORT", "PDU SESSION ESTABLISHMENT REQUEST, PSI 7, PTI 1",
                  "refused: NoHandset", "handset", "network"]
 IDS_BY_HAND = ["up-1", "up-2", "up-3", "down-1", "down-2", "down-3", "down-4", "up-1-again-6", "injected-12", "injected-13",
-               "injected-18"]
+               "injected-18", "injected-20"]
 
 
 def of_many(*states):
@@ -88,24 +89,26 @@ CIPHERED = ("nas transcript 1\n"
             "3 to-ue 1\n  up 2 7e042222222200aabbcc\n" + CONNECTED +
             "4 inject-ue 7e023333333301dddddd\n" + CONNECTED +
             "5 inject-ue 7e013333333301aaaa\n" + CONNECTED +
-            "6 establish 7 ipv4 internet\n  up 3 7e022222222201" + "ee" * (len(ESTABLISHMENT) // 2) + "\n" + CONNECTED +
-            "end 6 events honest yes agree yes\n")
+            "6 on 1 inject-ue 7e033333333301bbbb\n" + CONNECTED +
+            "7 establish 7 ipv4 internet\n  up 3 7e022222222201" + "ee" * (len(ESTABLISHMENT) // 2) + "\n" + CONNECTED +
+            "end 7 events honest yes agree yes\n")
 BARE = CIPHERED.replace("7e0311111111007e005d22", "7e0344444444007e005d02").replace("2222222200aabbcc", "55555555007e005e") \
     .replace("2222222201" + "ee" * (len(ESTABLISHMENT) // 2), "6666666601" + ESTABLISHMENT)
-LEFT_OUT = {"inject-ue 7e023333333301dddddd": "inject-ue -"}     # the lines that aren't repeated as they are
+# The lines that aren't repeated as they are.
+LEFT_OUT = {"inject-ue 7e023333333301dddddd": "inject-ue -", "on 1 inject-ue 7e033333333301bbbb": "on 1 inject-ue -"}
 INSIDE = [REQUEST, "7e005d220002a020", "7e005e", ESTABLISHMENT]
 SHOWN_INSIDE = ["What ciphered messages hold is told by the run repeated without ciphering.",
                 "up 2: SECURITY MODE COMPLETE (header type 4, sn 0)", "up 3: UL NAS TRANSPORT (header type 2, sn 1)",
                 "PDU SESSION ESTABLISHMENT REQUEST, PSI 7, PTI 1", "injected: header type 2, sn 1, inside not known"]
 LAST = "  up 3 7e026666666601" + ESTABLISHMENT + "\n"
 # What the repeated run may have otherwise: what is replaced by what, and the event whose messages aren't told any more.
-AGAIN_CHANGES = [("another message", "up 3 7e0222222222", "up 3 7e0222222223", 6),
+AGAIN_CHANGES = [("another message", "up 3 7e0222222222", "up 3 7e0222222223", 7),
                  ("another state", "aaaa\n  ue Registering", "aaaa\n  ue Registered", 5),
                  ("a refusal", "dddddd\n", "dddddd\n  nothing\n", 4)]
 # And the run without ciphering.
 BARE_CHANGES = [("a longer message", "7e005e\n", "7e005e00\n", 3), ("another sequence number", "55555555007e", "55555555017e", 3),
                 ("another header type", "7e0455", "7e0255", 3), ("another plain message", REQUEST, REQUEST[:-1] + "1", 1),
                 ("a command to cipher", "5d02", "5d22", 2), ("another command", "a020\n" + CONNECTED + "3", "a021\n" + CONNECTED + "3", 2),
-                ("no plain message inside", "5555007e005e", "5555007e015e", 3), ("a message less", LAST, "", 6),
+                ("no plain message inside", "5555007e005e", "5555007e015e", 3), ("a message less", LAST, "", 7),
                 ("other verdicts", "dddddd\n" + CONNECTED, "dddddd\n" + FORGED, 4),
-                ("another session", CONNECTED + "end", CONNECTED.replace("  honest", "  psi 7 Active Active\n  honest") + "end", 6)]
+                ("another session", CONNECTED + "end", CONNECTED.replace("  honest", "  psi 7 Active Active\n  honest") + "end", 7)]
