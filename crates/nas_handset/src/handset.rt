@@ -28,9 +28,9 @@ const SPENT: u32 = 1 << 24;
 /// A handset: its mobility management (5GMM), its sessions, the timers of both that run, and the moment that it was told last. The timer
 /// of a procedure runs exactly while that procedure is open, and that of a session's transaction exactly while it is open.
 ///
-/// Each event has two calls: `follow_..` prepares what comes of it on a handset that stays as it is, and `HandsetTurn::take_over` takes
-/// that over without memory and without fail; `command`, `deliver`, `tick`, `drop_link` and `restart` do both. The sessions are copied
-/// only by an event in which they take a step.
+/// A command, octets and a moment have two calls: `follow_..` prepares what comes of it on a handset that stays as it is, and
+/// `HandsetTurn::take_over` takes that over without memory and without fail; `command`, `deliver`, `tick`, `drop_link` and `restart` do
+/// both. The sessions are copied only by an event in which they take a step.
 #[derive(Drop)]
 pub struct Handset {
     pub(crate) mm: UeMm,

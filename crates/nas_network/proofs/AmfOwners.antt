@@ -1,12 +1,8 @@
 -- A step of the AMF leaves the timers of the procedures that are open, and those of commands as they were.
-use Rattle.std.proofs.Common.{◌≡◌, ◌∙◌, ap, refl, subst, sym, ℕ, Bool, true, false, List, [], ◌∷◌, None, Result, Ok, Err}
-use Rattle.std.specs.Str.{bytes_eq}
-use Rattle.nas_timers.specs.Timers.{stopped}
-use Rattle.nas_timers.specs.declared.timer_id.TimerId.{TimerId}
+use Rattle.std.proofs.Common.{◌≡◌, ◌∙◌, ap, refl, subst, sym, ℕ, Bool, true, false, List, [], None, Result, Ok, Err}
 use Rattle.amf_core.specs.State.{AmfState, subscriber_in}
-use Rattle.amf_core.specs.Step.{Stepped, step_of}
+use Rattle.amf_core.specs.Step.{Stepped}
 use Rattle.amf_core.specs.declared.inputs.AmfInput.{AmfInput}
-use Rattle.amf_core.specs.declared.inputs.AmfInput.TheVariants as inputs
 use Rattle.amf_core.specs.declared.inputs.AmfRefusal.{AmfRefusal}
 use Rattle.amf_laws.specs.Kept.{StayFew, SupisStay, supis}
 use Rattle.amf_laws.specs.OwnTimers.{AreOwn, TimersAreOfProcedures}

@@ -1,6 +1,5 @@
 -- What starts and stops does to the timers of a session's commands.
-use Rattle.std.proofs.Common.{◌≡◌, ◌∙◌, ap, refl, ℕ, Bool, true, false, ◌==◌, cond, arith, is_some, List, [], ◌∷◌, Option, None, Some, if◌then◌else◌}
-use Rattle.std.specs.Str.{bytes_eq}
+use Rattle.std.proofs.Common.{◌≡◌, ap, refl, ℕ, Bool, true, false, ◌==◌, cond, arith, is_some, List, Option, None, Some}
 use Rattle.nas_base.specs.Branches.{chosen}
 use Rattle.nas_base.specs.Values.{is_psi}
 use Rattle.std.proofs.lemmas.Bool.Decides.{nat_tests}

@@ -1,12 +1,12 @@
 -- What starts and stops does to the deadline of a timer.
-use Rattle.std.proofs.Common.{◌≡◌, ◌∙◌, ap, refl, sym, ℕ, Bool, true, false, ◌&&◌, cond, ◌<◌, ◌+◌, List, [], ◌∷◌, ◌++◌, length, take, get_or, Option, None, Some, if◌then◌else◌}
+use Rattle.std.proofs.Common.{◌≡◌, ◌∙◌, ap, refl, sym, ℕ, Bool, true, false, cond, ◌<◌, ◌+◌, List, [], ◌∷◌, ◌++◌, length, take, get_or, Option, None, Some, if◌then◌else◌}
 use Rattle.std.proofs.lemmas.List.{take_more}
 use Rattle.std.specs.Str.{bytes_eq}
 use Rattle.nas_timers.specs.Names.{same_name}
-use Rattle.nas_timers.specs.Timers.{Running, deadline_of, started, stopped}
+use Rattle.nas_timers.specs.Timers.{deadline_of, started, stopped}
 use Rattle.nas_timers.specs.declared.timer_id.TimerId.{TimerId}
 use Rattle.nas_timers.proofs.DeadlineLaws.{deadline_of-started, deadline_of-stopped}
-use Rattle.nas_network.specs.State.{SubscriberTimers, changed_for, deadline_for, is_timed, started_for, stopped_for, timers_of}
+use Rattle.nas_network.specs.State.{SubscriberTimers, deadline_for, is_timed, started_for, stopped_for, timers_of}
 use Rattle.nas_network.specs.TakingOver.{deadline_by, timers_after, timers_by}
 use Rattle.nas_network.specs.declared.timers.TimerChange.{TimerChange}
 use Rattle.nas_network.specs.declared.timers.TimerChange.TheVariants.{Start, Stop}
@@ -18,9 +18,9 @@ start_by : (x whose : List ℕ) (name id : TimerId) (at : ℕ) (ss : List Subscr
 start_by x whose name id at ss true own there =
     ap (deadline_of name) (own_change x whose (started id at) ss own there) ∙ deadline_of-started name id at (timers_of x ss)
     ∙ rw own (by_name (same_name id name) (deadline_for x name ss)) where
-  by_name : (same : Bool) (found : Option ℕ) → cond same (Some at) found ≡ (if same then Some at else found)
-  by_name true found = refl
-  by_name false found = refl
+      by_name : (same : Bool) (found : Option ℕ) → cond same (Some at) found ≡ (if same then Some at else found)
+      by_name true found = refl
+      by_name false found = refl
 start_by x whose name id at ss false other there =
     ap (deadline_of name) (others_stay x whose (started id at) ss other) ∙ rw other refl
 
@@ -29,9 +29,9 @@ stop_by : (x whose : List ℕ) (name id : TimerId) (ss : List SubscriberTimers) 
 stop_by x whose name id ss true own there =
     ap (deadline_of name) (own_change x whose (stopped id) ss own there) ∙ deadline_of-stopped name id (timers_of x ss)
     ∙ rw own (by_name (same_name id name) (deadline_for x name ss)) where
-  by_name : (same : Bool) (found : Option ℕ) → cond same None found ≡ (if same then None else found)
-  by_name true found = refl
-  by_name false found = refl
+      by_name : (same : Bool) (found : Option ℕ) → cond same None found ≡ (if same then None else found)
+      by_name true found = refl
+      by_name false found = refl
 stop_by x whose name id ss false other there =
     ap (deadline_of name) (others_stay x whose (stopped id) ss other) ∙ rw other refl
 

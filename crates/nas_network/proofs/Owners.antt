@@ -12,7 +12,7 @@ use Rattle.smf_core.specs.Step as smf
 use Rattle.smf_core.specs.declared.inputs.SmfInput.{SmfInput}
 use Rattle.smf_core.specs.declared.inputs.SmfInput.TheVariants as smf_inputs
 use Rattle.smf_core.specs.declared.inputs.SmfRefusal.{SmfRefusal}
-use Rattle.nas_network.specs.Network.{amf_commanded, answered, commanded, outcome, smf_commanded, smf_commanded_in, smf_outcome, takes_commands}
+use Rattle.nas_network.specs.Network.{answered, commanded, outcome, smf_commanded_in, smf_outcome, takes_commands}
 use Rattle.nas_network.specs.Owners.{HaveOwners, IsNoExpiry, names_identity}
 use Rattle.nas_network.specs.State.{NetworkState}
 use Rattle.nas_network.specs.TakingOver.{TurnChanges, taken_over}
@@ -20,7 +20,6 @@ use Rattle.nas_network.specs.Turns.{Turn, begun, onto, smf_onto, smf_stepped, st
 use Rattle.nas_network.specs.declared.command.NetCommand.{NetCommand}
 use Rattle.nas_network.specs.declared.command.NetCommand.TheVariants.{Authenticate, Deregister, Update, Modify, Release}
 use Rattle.nas_network.specs.declared.command.NetDelivery.{NetDelivery}
-use Rattle.nas_network.specs.declared.command.NetRefusal.{NetRefusal}
 use Rattle.nas_network.specs.declared.command.NetRefusal.TheVariants.{UnknownSupi, WrongState}
 use Rattle.nas_network.proofs.AmfOwners.{begins, lawful}
 use Rattle.nas_network.proofs.Served.{is_served}

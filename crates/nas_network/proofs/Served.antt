@@ -1,5 +1,5 @@
 -- A subscriber that the AMF keeps is one of the SMF.
-use Rattle.std.proofs.Common.{◌≡◌, ◌∙◌, ap, refl, sym, ℕ, Bool, true, false, List, [], ◌∷◌, Option, None, Some, is_some}
+use Rattle.std.proofs.Common.{◌≡◌, ◌∙◌, ap, refl, ℕ, Bool, true, false, List, Option, None, Some}
 use Rattle.amf_core.specs.State.{subscriber_in, view_in, viewed}
 use Rattle.amf_core.specs.declared.subscriber.Record.{Record}
 use Rattle.amf_core.specs.declared.view.NetView.{NetView}

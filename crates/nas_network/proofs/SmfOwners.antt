@@ -1,7 +1,6 @@
 -- A step of the SMF with all that comes of it leaves the timers of the commands that are open.
-use Rattle.std.proofs.Common.{◌≡◌, ◌∙◌, ap, refl, subst, sym, ℕ, Bool, true, false, List, [], ◌∷◌, Result, Ok, Err, IfOk, is_some}
+use Rattle.std.proofs.Common.{◌≡◌, ◌∙◌, ap, refl, subst, sym, ℕ, Bool, true, false, List, [], ◌∷◌, Result, Ok, Err, IfOk}
 use Rattle.std.specs.Str.{bytes_eq}
-use Rattle.nas_base.specs.Branches.{chosen}
 use Rattle.nas_base.specs.Values.{is_psi}
 use Rattle.nas_timers.specs.Timers.{started, stopped}
 use Rattle.nas_timers.specs.declared.timer_id.TimerId.{TimerId}
@@ -11,7 +10,7 @@ use Rattle.smf_core.specs.Laws.{concerns, names_one, supis}
 use Rattle.smf_core.specs.Sessions.{AreSessions}
 use Rattle.smf_core.specs.State.{SmfState, cell_of, is_subscriber, status_of}
 use Rattle.smf_core.specs.Step.{Stepped, step_of}
-use Rattle.smf_core.specs.TimerLaws.{AreOfCommands, IsOfCommand, Running, no_timer, running_after, running_at, running_of, running_with, with_timer}
+use Rattle.smf_core.specs.TimerLaws.{AreOfCommands, IsOfCommand, Running, no_timer, running_after, running_at, running_of}
 use Rattle.smf_core.specs.declared.inputs.SmfInput.{SmfInput}
 use Rattle.smf_core.specs.declared.inputs.SmfRefusal.{SmfRefusal}
 use Rattle.smf_core.specs.declared.outs.SmfOut.{SmfOut}
@@ -24,7 +23,7 @@ use Rattle.smf_core.proofs.TimerLaw.{timers_run}
 use Rattle.nas_network.specs.Owners.{ArePlaced, AreNamed, HaveOwners, commands_for, commands_of, running_for, timed}
 use Rattle.nas_network.specs.Owners as owners
 use Rattle.nas_network.specs.State.{NetworkState, SubscriberTimers, is_timed, started_for, stopped_for}
-use Rattle.nas_network.specs.Turns.{Turn, all_smf_taken, handed, sessions_told, smf_onto, smf_reached, smf_stepped, smf_taken, starting, stopping}
+use Rattle.nas_network.specs.Turns.{Turn, all_smf_taken, sessions_told, smf_onto, smf_reached, smf_stepped, smf_taken, starting, stopping}
 use Rattle.nas_network.proofs.AmfOwners.{Leaves, handed_leaves}
 use Rattle.nas_network.proofs.CommandRuns.{not_named, starts, stops}
 use Rattle.nas_network.proofs.Running.{command_starts, command_stops}
@@ -217,6 +216,7 @@ smf_owned rand supi input t s b served named step =
           runs.own psi ∙ ap (running_after psi s.outs) (b.named supi psi not) ∙ none_after psi s.outs not law.of in
           subst (λ (y : List ℕ). commands_for (all_smf_taken rand supi s.outs (smf_reached s t)).network.timers y psi ≡ no_timer) (are_equal supi x own) here
       named_by x psi not false other runs law = runs.others x psi other ∙ b.named x psi not
+
       by_place : (x : List ℕ) (psi : ℕ) → is_psi psi ≡ true → (own : Bool) → bytes_eq supi x ≡ own
           → Runs supi s.outs (smf_reached s t) (all_smf_taken rand supi s.outs (smf_reached s t)) → SmfLawful supi input t.network.smf s
           → commands_for (all_smf_taken rand supi s.outs (smf_reached s t)).network.timers x psi ≡ running_of (cell_of x psi s.smf).held

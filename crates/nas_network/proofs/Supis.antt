@@ -67,10 +67,12 @@ reading_stays f x supi change keeps (s ∷ ss) = by_test (bytes_eq s.supi supi) 
   here : (own : Bool) → f (if own then change s.timers else timers_of x ss) ≡ f (if own then s.timers else timers_of x ss)
   here true = keeps s.timers
   here false = refl
+
   behind : (own : Bool) → f (timers_of x (changed_for supi change ss)) ≡ f (timers_of x ss)
       → f (if own then s.timers else timers_of x (changed_for supi change ss)) ≡ f (if own then s.timers else timers_of x ss)
   behind true rest = refl
   behind false rest = rest
+
   by_test : (b : Bool) → f (timers_of x (changed_for supi change ss)) ≡ f (timers_of x ss)
       → f (timers_of x (if b then record s { timers = change s.timers } ∷ ss else s ∷ changed_for supi change ss)) ≡ f (timers_of x (s ∷ ss))
   by_test true rest = here (bytes_eq s.supi x)

@@ -1,22 +1,16 @@
 -- Timers that fire leave those of the procedures and of the commands that are open.
-use Rattle.std.proofs.Common.{◌≡◌, ◌∙◌, ap, refl, subst, sym, ℕ, Bool, true, false, nat_le, is_some, List, [], ◌∷◌, Option, None, Some, Result, Ok, Err}
-use Rattle.std.specs.Str.{bytes_eq}
+use Rattle.std.proofs.Common.{◌≡◌, ap, refl, subst, sym, ℕ, Bool, true, false, nat_le, is_some, List, [], ◌∷◌, Option, None, Some}
 use Rattle.nas_base.specs.Branches.{chosen, per}
 use Rattle.nas_base.specs.Values.{is_psi}
-use Rattle.nas_timers.specs.Timers as timers
-use Rattle.nas_timers.specs.Timers.{stopped}
 use Rattle.nas_timers.specs.declared.timer_id.TimerId.{TimerId}
 use Rattle.nas_timers.specs.declared.timer_id.TimerId.TheVariants.{T3510, T3516, T3517, T3521, T3522, T3550, T3555, T3560, T3580, T3581, T3582, T3591, T3592}
-use Rattle.amf_core.specs.declared.inputs.AmfInput.TheVariants as inputs
-use Rattle.amf_core.specs.Step.{worked}
-use Rattle.smf_core.specs.Step as smf
 use Rattle.smf_core.specs.declared.inputs.SmfInput.TheVariants as smf_inputs
 use Rattle.nas_network.specs.Network.{answered}
 use Rattle.smf_core.specs.Laws.{names_one}
 use Rattle.smf_core.specs.TimerLaws.{Running}
 use Rattle.nas_network.specs.Owners.{AreNamed, HaveOwners}
 use Rattle.nas_network.specs.State.{NetworkState, SubscriberTimers, deadline_for}
-use Rattle.nas_network.specs.Ticks.{DueTimer, all_fired, due_list, expired, expiry, fired, is_due, is_of_smf, ticked, told, without}
+use Rattle.nas_network.specs.Ticks.{DueTimer, all_fired, due_list, expired, expiry, fired, is_due, is_of_smf, ticked, told}
 use Rattle.nas_network.specs.TakingOver.{TurnChanges, taken_over}
 use Rattle.nas_network.specs.Turns.{Turn, begun}
 use Rattle.nas_network.specs.declared.command.NetDelivery.{NetDelivery}

@@ -1,14 +1,8 @@
 -- A turn leaves the timers of the procedures and of the commands that are open.
-use Rattle.std.proofs.Common.{◌≡◌, ◌∙◌, ap, refl, subst, sym, ℕ, Bool, true, false, List, [], ◌∷◌, None, Result, Ok, Err}
-use Rattle.std.specs.Str.{bytes_eq}
+use Rattle.std.proofs.Common.{◌≡◌, ◌∙◌, ap, refl, subst, sym, ℕ, Bool, true, false, List, [], ◌∷◌, Result, Ok, Err}
 use Rattle.nas_base.specs.Branches.{chosen}
-use Rattle.nas_base.specs.Values.{is_psi}
-use Rattle.nas_timers.specs.Timers.{stopped}
-use Rattle.nas_timers.specs.declared.timer_id.TimerId.{TimerId}
-use Rattle.nas_timers.specs.declared.timer_id.TimerId.TheVariants.{T3510, T3516, T3517, T3521, T3522, T3550, T3555, T3560, T3580, T3581, T3582, T3591, T3592}
-use Rattle.amf_core.specs.Step.{Stepped, worked}
+use Rattle.amf_core.specs.Step.{Stepped}
 use Rattle.amf_core.specs.declared.inputs.AmfInput.{AmfInput}
-use Rattle.amf_core.specs.declared.inputs.AmfInput.TheVariants as inputs
 use Rattle.amf_core.specs.declared.inputs.AmfRefusal.{AmfRefusal}
 use Rattle.amf_core.specs.declared.outs.AmfOut.{AmfOut}
 use Rattle.amf_core.specs.declared.outs.AmfOut.TheVariants as outs
@@ -19,13 +13,11 @@ use Rattle.amf_laws.specs.OwnTimers.{AreOwn, names_session}
 use Rattle.smf_core.specs.Laws.{names_one}
 use Rattle.smf_core.specs.Step as smf
 use Rattle.smf_core.specs.State.{SmfState, cell_of, is_subscriber}
-use Rattle.smf_core.specs.TimerLaws.{Running, running_at, running_of, with_timer}
+use Rattle.smf_core.specs.TimerLaws.{Running, running_at, running_of}
 use Rattle.smf_core.specs.declared.inputs.SmfInput.{SmfInput}
-use Rattle.smf_core.specs.declared.inputs.SmfInput.TheVariants as smf_inputs
 use Rattle.smf_core.specs.declared.inputs.SmfRefusal.{SmfRefusal}
-use Rattle.nas_network.specs.Owners.{AreNamed, ArePlaced, FitCommands, HaveOwners, IsNoExpiry, commands_for, commands_of}
-use Rattle.nas_network.specs.State.{NetworkState, is_timed}
-use Rattle.nas_network.specs.Ticks.{is_of_smf}
+use Rattle.nas_network.specs.Owners.{AreNamed, FitCommands, HaveOwners, IsNoExpiry}
+use Rattle.nas_network.specs.State.{NetworkState}
 use Rattle.nas_network.specs.Turns.{Turn, all_asked, all_taken, amf_onto, ask_input, asked, asks_in, onto, reached, smf_onto, smf_stepped, smf_turned, stepped, turned}
 use Rattle.nas_network.proofs.AmfOwners.{Begins, Lawful, begins, lawful, onto_placed}
 use Rattle.nas_network.proofs.Running.{all_commands, all_smf_stay}

@@ -1,6 +1,6 @@
 -- What a network answers to each event: the commands (TS 24.501 clauses 5.4.1.3, 5.4.2, 5.4.4, 5.5.2.3, 6.3.2 and 6.3.3), octets that
 -- come up a link (clause 5.4.5.2), and the loss of a link (clause 5.3.1.3).
-use Rattle.std.specs.Prelude.{◌≡◌, ℕ, Bool, true, false, not, ◌&&◌, List, [], ◌∷◌, take, Option, Some, None, Result, Ok, Err}
+use Rattle.std.specs.Prelude.{◌≡◌, ℕ, Bool, true, false, not, ◌&&◌, List, [], ◌∷◌, take, Result, Ok, Err}
 use Rattle.nas_base.specs.Branches.{per, when◌then◌else◌}
 use Rattle.nas_base.specs.Outcomes.{RefusesAs}
 use Rattle.nas_base.specs.declared.state_words.AmfWord.{AmfWord}

@@ -18,7 +18,9 @@ pub enum NetCommand {
     /// To de-register a subscriber (clause 5.5.2.3).
     Deregister(Supi),
     /// To give it a new 5G-GUTI (clause 5.4.4).
-    Update { supi: Supi },
+    Update {
+        supi: Supi,
+    },
     /// To modify a session: operations on its QoS rules, and a session AMBR where it is to change (clause 6.3.2).
     Modify {
         supi: Supi,
@@ -27,7 +29,10 @@ pub enum NetCommand {
         ambr: Option<Ambr>,
     },
     /// To release a session (clause 6.3.3).
-    Release { supi: Supi, psi: Psi },
+    Release {
+        supi: Supi,
+        psi: Psi,
+    },
 }
 
 /// Why a command was refused.

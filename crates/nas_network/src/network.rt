@@ -35,10 +35,11 @@ const NO_RAND: [u8; 16] = [0, 0, 0, 0, 0, 0, 0, 0, 0, 0, 0, 0, 0, 0, 0, 0];
 /// is, T3555 while an update is, T3522 while a de-registration by the network is (TS 24.501 clause 10.2); and for each of its sessions the
 /// timer of a command, T3591 or T3592, runs exactly while that command is open (clause 10.3).
 ///
-/// Each event has two calls: `follow_..` prepares what comes of it on a network that stays as it is, and `take_over` takes that over
-/// without memory and without fail; `command`, `deliver`, `tick` and `drop_link` do both. None of them copies a network: an event costs
-/// the records and the sessions that it changes, walks over the subscribers and the links, and, where a session gets an address or gives
-/// one back, one copy of the pools.
+/// A command, octets and a moment have two calls: `follow_..` prepares what comes of it on a network that stays as it is, and `take_over`
+/// takes that over without memory and without fail; `command`, `deliver`, `tick` and `drop_link` do both. None of them copies a network:
+/// an event costs copies of the records and the sessions that it looks into, walks over the subscribers and the links, and, where a
+/// challenge starts or an AUTS comes, one copy of the home network's numbers, where a session gets an address or gives one back, one of
+/// the pools, and where a timer is due, one of the timers.
 #[derive(Drop)]
 pub struct Network {
     pub(crate) amf: Amf,
@@ -109,10 +110,10 @@ impl Network {
     /// of `Update`, in this order, `Uncompleted` exactly where the last 5G-GUTI that was offered isn't confirmed, `Updated` exactly where
     /// the context in use has had an update, `TmsiSpent` exactly where no 5G-TMSI is left. Of `Modify` and `Release`, in this order,
     /// `WrongState` exactly where the subscriber isn't registered or its word is Deregistering, `NoSuchSession` exactly where it has no
-    /// session of the identity, `SessionBusy` exactly where that is in Modifying or in Releasing, and for `Release` in Releasing; of
-    /// `Modify` also `Settling` exactly where it is in Settling, `Qos` exactly where the operations don't go with its rules, and
-    /// `NoChange` exactly where they and the session AMBR leave it as it is, or the command would be its last one once more. Or `Memory`.
-    /// All is then as before.
+    /// session of the identity, and `SessionBusy`: of `Modify` exactly where that session is in Modifying or in Releasing, of `Release`
+    /// exactly where it is in Releasing. Of `Modify` then `Settling` exactly where it is in Settling, `Qos` exactly where the operations
+    /// don't go with its rules, and `NoChange` exactly where they and the session AMBR leave it as it is, or the command would be its last
+    /// one once more. Or `Memory`. All is then as before.
     pub fn command(
         &mut self,
         alloc: Global,

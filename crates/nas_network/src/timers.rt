@@ -156,11 +156,23 @@ impl TimerChange {
                 supi: whose,
                 id: name,
                 at,
-            } => { if is_same_supi(whose, supi) && name == id { Some(*at) } else { before } }
+            } => {
+                if is_same_supi(whose, supi) && name == id {
+                    Some(*at)
+                } else {
+                    before
+                }
+            }
             TimerChange::Stop {
                 supi: whose,
                 id: name,
-            } => { if is_same_supi(whose, supi) && name == id { None } else { before } }
+            } => {
+                if is_same_supi(whose, supi) && name == id {
+                    None
+                } else {
+                    before
+                }
+            }
         }
     }
 }

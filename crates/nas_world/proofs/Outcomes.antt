@@ -20,7 +20,7 @@ carried_out followed (Err refusal) w done = absurd done
 -- memory wasn't wanting
 known : {A : Type 0} (wants : Bool) → wants ≡ false → Unless wants A → A
 known false e fact = fact
-known true e fact = absurd e
+known true e fact = absurd (cc e)
 
 pub refused_by_handset : (refusal : CommandRefusal) (row : Result handset_turns.Turn CommandRefusal) (w : WorldState) →
     handset.wants_memory refusal ≡ false → RefusesAs handset.wants_memory refusal row → ue_outcome row w ≡ (w, ue_refusal refusal)
