@@ -1,5 +1,5 @@
 -- What is numbered from 1: the handsets of a world with their links, and the messages on each.
-use Rattle.std.specs.Prelude.{ℕ, ◌-◌, Bool, is_some, List, Option, None, ◌==◌, slice_get, slice_set, if◌then◌else◌}
+use Rattle.std.specs.Prelude.{ℕ, ◌-◌, Bool, is_some, List, Option, Some, None, nat_lt, ◌==◌, slice_get, slice_set, if◌then◌else◌}
 use Rattle.nas_base.specs.Branches.{per}
 
 -- what has a number
@@ -8,6 +8,10 @@ numbered number xs = if number == 0 then None else slice_get xs (number - 1)
 
 abbrev pub is_number : {A : Type 0} → ℕ → List A → Bool
 is_number number xs = is_some (numbered number xs)
+
+-- its place among so many
+abbrev pub place_of : ℕ → ℕ → Option ℕ
+place_of number size = if number == 0 then None else (if nat_lt (number - 1) size then Some (number - 1) else None)
 
 -- another in its place
 abbrev pub placed : {A : Type 0} → ℕ → A → List A → List A

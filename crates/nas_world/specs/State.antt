@@ -29,10 +29,10 @@ pub record WorldState : Type 0 where
   pub supis : List (List ℕ)
 
 -- there are 1 to 16 handsets, each with a SUPI and a link
-pub record AreNumbered (w : WorldState) : Type 0 where
-  pub few : length w.handsets ≤ 16
-  pub supis : length w.supis ≡ length w.handsets
-  pub links : length w.sent ≡ length w.handsets
+pub record AreNumbered (handsets : List HandsetState) (sent : List SentLog) (supis : List (List ℕ)) : Type 0 where
+  pub few : length handsets ≤ 16
+  pub each_supi : length supis ≡ length handsets
+  pub each_link : length sent ≡ length handsets
 
 -- before any event
 abbrev pub supi_of : HandsetValues → List ℕ

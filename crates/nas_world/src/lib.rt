@@ -8,7 +8,10 @@ mod commands;
 mod config;
 mod deliveries;
 mod event;
+mod gutis;
+mod handsets;
 mod honesty;
+mod keys;
 mod logs;
 mod moments;
 mod passes;
@@ -16,6 +19,7 @@ mod refusals;
 mod script;
 mod seen;
 mod sent;
+mod sessions;
 mod taken;
 mod world;
 

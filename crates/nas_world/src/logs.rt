@@ -1,5 +1,5 @@
 //! What both ends sent, and the contexts that handsets took into use.
-ghost use Rattle.std.specs.Prelude.{◌≡◌, option_copied, IfOk};
+ghost use Rattle.std.specs.Prelude.{◌≡◌, option_copied, option_map, IfOk};
 ghost use Rattle.nas_world.specs.Numbered.{numbered};
 
 use nas_base::Memory;
@@ -34,6 +34,13 @@ impl Model for TakenLog {
     ghost Value = { List Taken };
 
     ghost view = { λ t. t.items.items };
+}
+
+/// The log of the link of a number.
+pub fn log_of(logs: &[SentLog], who: u8) -> Option<&SentLog>
+    ensures { option_map (λ l. l.now) result ≡ numbered who logs.now }
+{
+    logs.get(usize::from(who).checked_sub(1)?)
 }
 
 /// A copy of the message of this number, counted from 1, if there is one.
