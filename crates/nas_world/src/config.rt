@@ -1,5 +1,5 @@
 //! What a world is made of.
-ghost use Rattle.std.specs.Prelude.{◌≡◌, ◌∷◌, IfOk};
+ghost use Rattle.std.specs.Prelude.{◌≡◌, [], ◌∷◌, IfOk};
 ghost use Rattle.nas_world.specs.Config.{Pushes, is_handset_of};
 
 use nas_base::{Memory, Supi};
@@ -77,7 +77,7 @@ impl Handsets {
     ///
     /// `Known` exactly where one of the list has its SUPI, else `Full` exactly where the list has 16 handsets, else `Memory` where there is
     /// none. The list is then as it was.
-    #[tactic(auto, using(crate::proofs::Handsets::handset_pushed))]
+    #[tactic(auto, using(crate::proofs::Growing::handset_pushed))]
     pub fn push(&mut self, _alloc: Global, handset: HandsetConfig) -> Result<(), HandsetsRefusal>
         ensures { Pushes result handset self.old self.new }
     {

@@ -1,12 +1,11 @@
 //! Whether the sessions of both ends are the same where they are quiet.
-ghost use Rattle.std.specs.Prelude.{◌≡◌, true};
+ghost use Rattle.std.specs.Prelude.{◌≡◌, false, option_map};
 ghost use Rattle.std.specs.Str.{bytes_eq};
 ghost use Rattle.nas_base.specs.Branches.{per};
+ghost use Rattle.sm_messages.specs.Session.{SessionValues};
 ghost use Rattle.smf_core.specs.Establishment.{is_same_slice};
 ghost use Rattle.smf_core.specs.Sameness.{are_same_rules, is_same_ambr};
-ghost use Rattle.smf_core.specs.State.{session_of};
-ghost use Rattle.ue_sm.specs.State.{cell_of};
-ghost use Rattle.nas_world.specs.Sessions.{are_same, cell_agrees, holds_same, is_active, is_same_address, is_same_session, is_settled, session_agrees, sessions_agree};
+ghost use Rattle.nas_world.specs.Sessions.{are_same, is_active, is_same_address, is_same_session, is_settled, session_agrees, sessions_agree};
 
 use nas_base::{Psi, SmWord, SmfWord, Supi};
 use nas_elements::{Address, Ambr, Dnn, Slice};
@@ -28,6 +27,7 @@ pub fn sessions_agree(handset: &Handset, supi: &Supi, network: &Network) -> bool
 }
 
 // Whether the session of an identity is the same, if it is quiet.
+#[tactic(auto, unfolding(crate::specs::Sessions::session_agrees), using(crate::proofs::Resting::not_active, crate::proofs::Resting::not_there, crate::proofs::Resting::not_settled, crate::proofs::Resting::at_rest))]
 fn session_agrees(handset: &Handset, supi: &Supi, network: &Network, psi: Psi) -> bool
     ensures { result ≡ session_agrees handset.now.sm supi.now network.now.smf psi }
 {
@@ -41,9 +41,17 @@ fn session_agrees(handset: &Handset, supi: &Supi, network: &Network, psi: Psi) -
     if !is_settled(net.state) {
         return true;
     }
-    match own.session {
+    holds_same(own.session, net.session)
+}
+
+// A handset has a session, and it is the same.
+#[tactic(auto, unfolding(nas_base::specs::Branches::per))]
+fn holds_same(own: Option<&Session>, net: &Session) -> bool
+    ensures { result ≡ per (option_map (λ s. s.now) own) false (λ (s : SessionValues). is_same_session s net.now) }
+{
+    match own {
         None => false,
-        Some(session) => is_same_session(session, net.session),
+        Some(own) => is_same_session(own, net),
     }
 }
 
