@@ -1,19 +1,91 @@
 //! The lines of both ends.
-ghost use Rattle.std.specs.Prelude.{◌≡◌, ◌++◌, OnOk};
-ghost use Rattle.nas_script.specs.Ends.{amf_text, connection_text, context_text, guti_text, kept_text, ksi_text, mm_text, net_text, others_text, subscriber_text, tmsi_text, ue_text};
+ghost use Rattle.std.specs.Prelude.{◌≡◌, ◌≤◌, ◌++◌, length, IfSome, OnOk};
+ghost use Rattle.nas_world.specs.Logs.{sent_at};
+ghost use Rattle.nas_script.specs.Told.{AreOf, tolds_of};
+ghost use Rattle.nas_script.specs.Ends.{ends_text, handset_text, handsets_text, number_line, amf_text, connection_text, context_text, guti_text, kept_text, ksi_text, mm_text, net_text, others_text, subscriber_text, tmsi_text, ue_text};
 
 use crate::append::append;
+use crate::session_lines::append_sessions;
 use amf_core::{KeptGuti, NetView};
 use byteorder::{BigEndian, ByteOrder};
-use nas_base::{AmfWord, Memory, MmWord};
+use nas_base::{AmfWord, Memory, MmWord, Supi};
 use nas_elements::Guti;
 use nas_security::Context;
+use nas_world::{Handsets, World};
 use std::alloc::Global;
-use ue_mm::UeView;
+use ue_mm::{HandsetConfig, UeView};
 
-/// Appends the line of the handset.
+/// Appends the lines of the handsets, of their subscribers and of their sessions: where there are several handsets, those of each under a
+/// line of its number.
+pub fn append_ends(
+    alloc: Global,
+    text: &mut Vec<u8>,
+    handsets: &Handsets,
+    world: &World,
+) -> Result<(), Memory>
+    requires { AreOf handsets.now (tolds_of world.now) }
+    ensures { OnOk result (text.new.items ≡ text.old.items ++ ends_text world.now.network (tolds_of world.now)) }
+{
+    let handsets = handsets.as_slice();
+    if handsets.len() > 1 {
+        append_handsets(alloc, text, handsets, world)
+    } else {
+        append_handset(alloc, text, 1, &handsets[0].supi, world)
+    }
+}
+
+// Appends the lines of each handset, under a line of its number.
+fn append_handsets(
+    alloc: Global,
+    text: &mut Vec<u8>,
+    handsets: &[HandsetConfig],
+    world: &World,
+) -> Result<(), Memory>
+    requires limit { length handsets.now ≤ 16 }
+    requires configured { AreOf handsets.now (tolds_of world.now) }
+    ensures { OnOk result (text.new.items ≡ text.old.items ++ handsets_text world.now.network 1 (tolds_of world.now)) }
+{
+    for at in 0..handsets.len() {
+        let number = (at + 1) as u8;
+        append_number(alloc, text, number)?;
+        append_handset(alloc, text, number, &handsets[at].supi, world)?;
+    }
+    Ok(())
+}
+
+// Appends the line of a handset's number.
+#[tactic(auto, unfolding(crate::specs::Ends::number_line))]
+fn append_number(alloc: Global, text: &mut Vec<u8>, number: u8) -> Result<(), Memory>
+    ensures { OnOk result (text.new.items ≡ text.old.items ++ number_line number) }
+{
+    let Ok(line) = format!(in alloc; "  handset {number}\n") else {
+        return Err(Memory);
+    };
+    append(text, line.as_bytes())
+}
+
+// Appends the lines of a handset, of its subscriber, and of its sessions at both.
+fn append_handset(
+    alloc: Global,
+    text: &mut Vec<u8>,
+    number: u8,
+    supi: &Supi,
+    world: &World,
+) -> Result<(), Memory>
+    requires there { (1 ≤ number) × (number ≤ length (tolds_of world.now)) }
+    requires own { IfSome (sent_at number (tolds_of world.now)) (λ t. t.supi ≡ supi.now) }
+    ensures { OnOk result (IfSome (sent_at number (tolds_of world.now)) (λ t. text.new.items ≡ text.old.items ++ handset_text world.now.network t)) }
+{
+    let handset = world.handset(number);
+    let network = world.network();
+    append_ue(alloc, text, &handset.view())?;
+    append_net(alloc, text, &network.view(supi))?;
+    append_sessions(alloc, text, supi, handset, network)
+}
+
+// Appends the line of a handset.
 #[tactic(auto, unfolding(crate::specs::Ends::ue_text))]
-pub fn append_ue(alloc: Global, text: &mut Vec<u8>, view: &UeView) -> Result<(), Memory>
+fn append_ue(alloc: Global, text: &mut Vec<u8>, view: &UeView) -> Result<(), Memory>
     ensures { OnOk result (text.new.items ≡ text.old.items ++ ue_text view.now) }
 {
     append(text, b"  ue ")?;
@@ -25,9 +97,9 @@ pub fn append_ue(alloc: Global, text: &mut Vec<u8>, view: &UeView) -> Result<(),
     append(text, b"\n")
 }
 
-/// Appends the line of the handset's subscriber, or of a handset that is none's.
+// Appends the line of the handset's subscriber, or of a handset that is none's.
 #[tactic(auto, unfolding(crate::specs::Ends::no_subscriber_text))]
-pub fn append_net(alloc: Global, text: &mut Vec<u8>, view: &Option<NetView>) -> Result<(), Memory>
+fn append_net(alloc: Global, text: &mut Vec<u8>, view: &Option<NetView>) -> Result<(), Memory>
     ensures { OnOk result (text.new.items ≡ text.old.items ++ net_text view.now) }
 {
     match view {

@@ -1,14 +1,15 @@
 //! The lines of one event.
-ghost use Rattle.std.specs.Prelude.{◌≡◌, ◌+◌, ◌<◌, ◌≤◌, ◌++◌, length, drop, OnOk};
+ghost use Rattle.std.specs.Prelude.{◌≡◌, ◌++◌, OnOk};
 ghost use Rattle.nas_world.specs.Agree.{agree};
 ghost use Rattle.nas_world.specs.State.{honest};
-ghost use Rattle.nas_script.specs.Transcript.{end_text, event_text, line_text, nothing_text, refusal_text, refused_text, sent_text, sents_text, verdict_text, word_of, world_text};
+ghost use Rattle.nas_script.specs.Told.{AreOf, tolds_of};
+ghost use Rattle.nas_script.specs.Transcript.{end_text, event_text, line_text, nothing_text, refusal_text, refused_text, verdict_text, word_of, world_text};
 
 use crate::append::append;
-use crate::ends::{append_net, append_ue};
-use nas_base::{Memory, Supi};
-use nas_security::Send;
-use nas_world::{RefusedWord, Seen, World};
+use crate::ends::append_ends;
+use crate::message_texts::{append_messages, way_of};
+use nas_base::Memory;
+use nas_world::{Handsets, RefusedWord, ScriptLine, Seen, World};
 use std::alloc::Global;
 
 // Appends the first line of an event.
@@ -22,43 +23,6 @@ fn append_line(alloc: Global, text: &mut Vec<u8>, number: u32, line: &[u8]) -> R
     append(text, digits.as_bytes())?;
     append(text, line)?;
     append(text, b"\n")
-}
-
-// Appends the line of a message.
-#[tactic(auto, unfolding(crate::specs::Transcript::sent_text))]
-fn append_sent(
-    alloc: Global,
-    text: &mut Vec<u8>,
-    way: &str,
-    number: usize,
-    send: &Send,
-) -> Result<(), Memory>
-    ensures { OnOk result (text.new.items ≡ text.old.items ++ sent_text way.now number send.now) }
-{
-    let Ok(hex) = hex::encode(alloc, send.octets.as_slice()) else {
-        return Err(Memory);
-    };
-    let Ok(line) = format!(in alloc; "  {way} {number} {hex}\n") else {
-        return Err(Memory);
-    };
-    append(text, line.as_bytes())
-}
-
-// Appends the lines of the messages that were sent since there were `before` of them.
-fn append_newly_sent(
-    alloc: Global,
-    text: &mut Vec<u8>,
-    way: &str,
-    before: usize,
-    sends: &[Send],
-) -> Result<(), Memory>
-    requires { before ≤ length sends.now }
-    ensures { OnOk result (text.new.items ≡ text.old.items ++ sents_text way.now (before + 1) (drop before sends.now)) }
-{
-    for number in before..sends.len() {
-        append_sent(alloc, text, way, number + 1, &sends[number])?;
-    }
-    Ok(())
 }
 
 // Appends the line of a refusal, where there was one.
@@ -77,6 +41,7 @@ fn append_refusal(text: &mut Vec<u8>, word: RefusedWord) -> Result<(), Memory>
     ensures { OnOk result (text.new.items ≡ text.old.items ++ refusal_text word) }
 {
     match word {
+        RefusedWord::NoHandset => append(text, b"  refused NoHandset\n"),
         RefusedWord::WrongState => append(text, b"  refused WrongState\n"),
         RefusedWord::NoSuchSession => append(text, b"  refused NoSuchSession\n"),
         RefusedWord::SessionThere => append(text, b"  refused SessionThere\n"),
@@ -128,41 +93,49 @@ fn append_verdict(alloc: Global, text: &mut Vec<u8>, world: &World) -> Result<()
     append(text, line.as_bytes())
 }
 
-// Appends the lines of both ends.
-fn append_world(alloc: Global, text: &mut Vec<u8>, supi: &Supi, world: &World) -> Result<(), Memory>
-    requires { world.now.supi ≡ supi.now }
+// Appends the lines of both ends, and the verdicts.
+fn append_world(
+    alloc: Global,
+    text: &mut Vec<u8>,
+    handsets: &Handsets,
+    world: &World,
+) -> Result<(), Memory>
+    requires { AreOf handsets.now (tolds_of world.now) }
     ensures { OnOk result (text.new.items ≡ text.old.items ++ world_text world.now) }
 {
-    append_ue(alloc, text, &world.handset().view())?;
-    append_net(alloc, text, &world.network().view(supi))?;
+    append_ends(alloc, text, handsets, world)?;
     append(text, b"  ")?;
     append_verdict(alloc, text, world)
 }
 
-/// Appends the lines of an event, before which there were so many messages in each direction.
-#[tactic(auto, unfolding(crate::specs::Transcript::up, crate::specs::Transcript::down))]
+/// Appends the lines of an event that led to this world.
 pub fn append_event(
     alloc: Global,
     text: &mut Vec<u8>,
     number: u32,
-    line: &[u8],
-    before: (usize, usize),
-    supi: &Supi,
+    line: &ScriptLine,
+    handsets: &Handsets,
     world: &World,
     seen: &Seen,
 ) -> Result<(), Memory>
-    requires supi { world.now.supi ≡ supi.now }
-    requires ups { before.0 ≤ length world.now.up }
-    requires downs { before.1 ≤ length world.now.down }
-    ensures { OnOk result (text.new.items ≡ text.old.items ++ event_text number line.now before.0 before.1 world.now seen.now) }
+    requires { AreOf handsets.now (tolds_of world.now) }
+    ensures { OnOk result (text.new.items ≡ text.old.items ++ event_text number line.now world.now seen.now) }
 {
-    let sent = world.sent();
-    append_line(alloc, text, number, line)?;
-    append_newly_sent(alloc, text, "up", before.0, sent.up.as_slice())?;
-    append_newly_sent(alloc, text, "down", before.1, sent.down.as_slice())?;
+    let count = handsets.as_slice().len();
+    let way = way_of(&line.event);
+    append_line(alloc, text, number, line.text.as_slice())?;
+    append_messages(
+        alloc,
+        text,
+        count > 1,
+        way,
+        world,
+        count,
+        seen.sends.as_slice(),
+    )?;
     append_refused(text, &seen.refused)?;
     append_nothing(text, seen.nothing)?;
-    append_world(alloc, text, supi, world)
+    append_world(alloc, text, handsets, world)
 }
 
 /// Appends the last line, after so many events.

@@ -11,6 +11,7 @@ mod event_text;
 mod fields;
 mod handset_tables;
 mod key;
+mod message_texts;
 mod names;
 mod network_table;
 mod script;

@@ -1,13 +1,14 @@
 //! The transcript.
-ghost use Rattle.std.specs.Prelude.{◌≡◌, ◌+◌, ◌<◌, length, OnOk};
+ghost use Rattle.std.specs.Prelude.{◌≡◌, ◌+◌, OnOk};
 ghost use Rattle.nas_base.specs.Outside.{Tells};
 ghost use Rattle.nas_world.specs.Events.{step_of};
 ghost use Rattle.nas_script.specs.Fault.{is_output};
+ghost use Rattle.nas_script.specs.Told.{AreOf, tolds_of};
 ghost use Rattle.nas_script.specs.Transcript.{end_text, event_text, head_text, transcript_of};
 
 use crate::event_text::{append_end, append_event};
-use nas_base::{Memory, Sink, Supi, WriteRefusal};
-use nas_world::{Script, ScriptLine, World, WorldConfig};
+use nas_base::{Memory, Sink, WriteRefusal};
+use nas_world::{Handsets, Script, ScriptLine, World, WorldConfig};
 use std::alloc::Global;
 use thiserror::Error;
 
@@ -46,11 +47,11 @@ pub fn transcript<O: Sink>(
     ensures { Tells is_output (O.written out.old) (O.written out.new) (O.fault_count out.old) (O.fault_count out.new) (transcript_of config.now script.now) result }
 {
     let mut world = World::new(alloc, config)?;
-    write_head(alloc, out)?;
+    write_head(alloc, config.handsets.as_slice().len() > 1, out)?;
     let mut number = 0;
     for line in &script.items {
         number += 1;
-        write_event(alloc, number, line, &config.handset.supi, &mut world, out)?;
+        write_event(alloc, number, line, &config.handsets, &mut world, out)?;
     }
     write_end(alloc, number, &world, out)
 }
@@ -66,43 +67,36 @@ fn tell<O: Sink>(alloc: Global, out: &mut O, octets: &[u8]) -> Result<(), Transc
     }
 }
 
-// Writes the first line.
+// Writes the first line, by which it is told whether there are several handsets.
 #[tactic(auto, unfolding(crate::specs::Transcript::head_text))]
-fn write_head<O: Sink>(alloc: Global, out: &mut O) -> Result<(), TranscriptFault>
-    ensures { Tells is_output (O.written out.old) (O.written out.new) (O.fault_count out.old) (O.fault_count out.new) head_text result }
+fn write_head<O: Sink>(alloc: Global, several: bool, out: &mut O) -> Result<(), TranscriptFault>
+    ensures { Tells is_output (O.written out.old) (O.written out.new) (O.fault_count out.old) (O.fault_count out.new) (head_text several) result }
 {
-    tell(alloc, out, b"nas transcript 1\n")
+    if several {
+        tell(alloc, out, b"nas transcript 2\n")
+    } else {
+        tell(alloc, out, b"nas transcript 1\n")
+    }
 }
 
 // Makes an event happen, and writes its lines.
-#[tactic(auto, using(crate::proofs::WorldLaws::keeps_supi, crate::proofs::WorldLaws::keeps_ups, crate::proofs::WorldLaws::keeps_downs))]
+#[tactic(auto, using(crate::proofs::WorldLaws::keeps_handsets))]
 fn write_event<O: Sink>(
     alloc: Global,
     number: u32,
     line: &ScriptLine,
-    supi: &Supi,
+    handsets: &Handsets,
     world: &mut World,
     out: &mut O,
 ) -> Result<(), TranscriptFault>
-    requires { world.old.supi ≡ supi.now }
+    requires { AreOf handsets.now (tolds_of world.old) }
     ensures text { Tells is_output (O.written out.old) (O.written out.new) (O.fault_count out.old) (O.fault_count out.new)
-        (event_text number line.now.text (length world.old.up) (length world.old.down) (step_of world.old line.now.event).0 (step_of world.old line.now.event).1) result }
+        (event_text number line.now (step_of world.old line.now.event).0 (step_of world.old line.now.event).1) result }
     ensures world { OnOk result (world.new ≡ (step_of world.old line.now.event).0) }
 {
-    let sent = world.sent();
-    let before = (sent.up.as_slice().len(), sent.down.as_slice().len());
     let seen = world.step(alloc, &line.event)?;
     let mut text = Vec::new(alloc);
-    append_event(
-        alloc,
-        &mut text,
-        number,
-        line.text.as_slice(),
-        before,
-        supi,
-        world,
-        &seen,
-    )?;
+    append_event(alloc, &mut text, number, line, handsets, world, &seen)?;
     tell(alloc, out, text.as_slice())
 }
 
