@@ -1,5 +1,5 @@
 -- The transcript of a run: a head, the lines of each event, an end.
-use Rattle.std.specs.Prelude.{ℕ, ◌+◌, Bool, List, [], ◌∷◌, ◌++◌, codes, Option, Some, None, if◌then◌else◌}
+use Rattle.std.specs.Prelude.{ℕ, ◌+◌, Bool, List, [], ◌∷◌, ◌++◌, length, nat_lt, codes, Option, Some, None, if◌then◌else◌}
 use Rattle.std.specs.Fmt.{decimal}
 use Rattle.nas_world.specs.Config.{WorldValues}
 use Rattle.nas_world.specs.Script.{Line}
@@ -13,7 +13,7 @@ use Rattle.nas_script.specs.Ends.{ends_text}
 use Rattle.nas_script.specs.MessageTexts.{messages_text, way_of}
 use Rattle.nas_script.specs.Told.{are_several, tolds_of}
 
--- the form is told by the number of handsets
+-- the form is told by the number of handsets that are configured
 unfoldable pub head_text : Bool → List ℕ
 head_text several = if several then codes "nas transcript 2\n" else codes "nas transcript 1\n"
 
@@ -76,4 +76,4 @@ events_text number w (line ∷ lines) =
     ++ events_text (number + 1) (step_of w line.event).0 lines
 
 abbrev pub transcript_of : WorldValues → List Line → List ℕ
-transcript_of config script = head_text (are_several (tolds_of (first config))) ++ events_text 0 (first config) script
+transcript_of config script = head_text (nat_lt 1 (length config.handsets)) ++ events_text 0 (first config) script

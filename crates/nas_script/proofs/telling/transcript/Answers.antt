@@ -1,5 +1,5 @@
 -- Each write tells a front of the transcript, and what tells the rest tells the whole.
-use Rattle.std.proofs.Common.{◌∙◌, ◌+◌, ap, refl, subst, sym, List, ℕ, is_ok, drop}
+use Rattle.std.proofs.Common.{◌∙◌, ◌+◌, ap, refl, subst, sym, List, ℕ, is_ok, drop, length, ltb, map}
 use Rattle.std.proofs.lemmas.List.{drop_all}
 use Rattle.std.proofs.lemmas.Result.{err_from_is_err_and}
 use Rattle.nas_base.specs.Outside.{Tells}
@@ -7,25 +7,26 @@ use Rattle.nas_base.proofs.SinkLaws.{tells_after, tells_front}
 use Rattle.nas_world.specs.Events.{step_of}
 use Rattle.nas_world.specs.State.{WorldState, first}
 use Rattle.nas_script.specs.Fault.{is_output}
+use Rattle.nas_script.specs.Told.{told_supi, tolds_of}
 use Rattle.nas_script.specs.Transcript.{events_text, head_text}
 use Rattle.nas_script.proofs.TranscriptLaws.{transcript_from, events_text-drop}
-use Rattle.nas_script.proofs.WorldLaws.{keeps_supi}
+use Rattle.nas_script.proofs.WorldLaws.{first_handsets, keeps_handsets}
 use Rattle.nas_script.proofs.telling.transcript.Goals as goal
 
 pub returns-in_err-write_head : goal.returns-in_err-write_head
 returns-in_err-write_head g c =
     let p = err_from_is_err_and c.from_residual-in_err-write_head.result c.from_residual-in_err-write_head.ensures.1 in
-    tells_front is_output _ _ _ _ head_text (events_text 0 (first c.args.config.now) c.args.script.now)
+    tells_front is_output _ _ _ _ (head_text (ltb 1 (length c.args.config.now.handsets))) (events_text 0 (first c.args.config.now) c.args.script.now)
     c.write_head.result c.from_residual-in_err-write_head.result c.in_err-write_head.field-0.0 c.in_err-write_head.was (rw (p.1, p.2) refl) c.write_head.ensures
 
 pub loop-line-init : goal.loop-line-init
 loop-line-init g c = record {
   count = refl;
-  supi = ap (λ (w : WorldState). w.supi) c.in_ok-world.ensures;
+  handsets = ap (λ (w : WorldState). map told_supi (tolds_of w)) c.in_ok-world.ensures ∙ first_handsets c.args.config.now;
   told = λ new now r rest.
       let whole = transcript_from c.args.config.now c.in_ok-world.world c.deref-line-items.result.now c.args.script.now c.in_ok-world.ensures (c.deref-line-items.ensures.value ∙ c.script.view_is) in
       subst (λ (t : List ℕ). Tells is_output (g.O.Sink.written c.args.out.now) new (g.O.Sink.fault_count c.args.out.now) now t r) whole
-      (tells_after is_output _ _ _ _ _ _ head_text (events_text 0 c.in_ok-world.world c.deref-line-items.result.now) c.write_head.result r (ap is_ok c.in_ok-write_head.was) c.write_head.ensures rest);
+      (tells_after is_output _ _ _ _ _ _ (head_text (ltb 1 (length c.args.config.now.handsets))) (events_text 0 c.in_ok-world.world c.deref-line-items.result.now) c.write_head.result r (ap is_ok c.in_ok-write_head.was) c.write_head.ensures rest);
 }
 
 pub returns-in_err-write_event : goal.returns-in_err-write_event
@@ -40,7 +41,7 @@ returns-in_err-write_event g c =
 pub loop-line-preserved : goal.loop-line-preserved
 loop-line-preserved g c = record {
   count = ap (λ n. n + 1) c.loop-line.invariant.count;
-  supi = ap (λ (w : WorldState). w.supi) c.in_ok-write_event.ensures.world ∙ keeps_supi c.loop-line.world c.line-item.result.event ∙ c.loop-line.invariant.supi;
+  handsets = ap (λ (w : WorldState). map told_supi (tolds_of w)) c.in_ok-write_event.ensures.world ∙ keeps_handsets c.loop-line.world c.line-item.result.event ∙ c.loop-line.invariant.handsets;
   told = λ new now r rest.
       let later = events_text-drop c.loop-line.number c.loop-line.world c.write_event.new.world c.deref-line-items.result.now c.loop-line.line-index c.line-item.result c.loop-line-test.true c.line-item.is c.in_ok-write_event.ensures.world in
       c.loop-line.invariant.told new now r
