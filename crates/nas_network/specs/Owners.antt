@@ -1,11 +1,12 @@
 -- Which timers of procedures and of commands run at a network (TS 24.501 clauses 10.2 and 10.3).
-use Rattle.std.specs.Prelude.{◌≡◌, is_some, nat_le, ℕ, Bool, true, false, List, [], ◌∷◌, length}
+use Rattle.std.specs.Prelude.{◌≡◌, is_some, nat_le, ℕ, Bool, true, false, List, [], ◌∷◌, length, ◌==◌, if◌then◌else◌}
 use Rattle.std.specs.List.{list_all}
 use Rattle.nas_timers.specs.Timers as timers
 use Rattle.nas_timers.specs.Timers.{deadline_of}
 use Rattle.nas_timers.specs.declared.timer_id.TimerId.TheVariants.{T3522, T3550, T3555, T3560, T3591, T3592}
 use Rattle.amf_core.specs.declared.inputs.AmfInput.{AmfInput}
 use Rattle.amf_core.specs.declared.subscriber.Record.{Record}
+use Rattle.amf_laws.specs.Consistency.{AreConsistent}
 use Rattle.amf_laws.specs.Kept.{supis}
 use Rattle.amf_laws.specs.Timers.{AreDistinct, FitProcedures, Running, expired_by}
 use Rattle.nas_base.specs.Values.{is_psi}
@@ -42,6 +43,13 @@ keeps_few s = nat_le (length s.kept) 2
 abbrev pub all_keep_few : List Record → Bool
 all_keep_few subscribers = list_all keeps_few subscribers
 
+-- and one alone for a subscriber whose last one is confirmed
+abbrev pub keeps_one : Record → Bool
+keeps_one s = if s.completed then length s.kept == 1 else true
+
+abbrev pub all_keep_one : List Record → Bool
+all_keep_one subscribers = list_all keeps_one subscribers
+
 -- those of the commands of a session that have a deadline: T3591 and T3592 of its identity
 abbrev pub commands_of : ℕ → List timers.Running → smf.Running
 commands_of psi ts = record {
@@ -62,13 +70,15 @@ abbrev pub AreNamed : List SubscriberTimers → Type 0
 AreNamed ts = (supi : List ℕ) (psi : ℕ) → is_psi psi ≡ false → commands_for ts supi psi ≡ smf.no_timer
 
 -- The timer of a procedure runs exactly while that procedure is open, for each SUPI. No SUPI is kept twice; timers are kept for those
--- that the AMF keeps, and these are the SMF's, in one order. Of 5G-GUTIs two are kept at most. Sessions are as an SMF's are.
+-- that the AMF keeps, and these are the SMF's, in one order. Of 5G-GUTIs two are kept at most, and one alone
+-- once it is confirmed. Sessions are as an SMF's are.
 pub record ArePlaced (n : NetworkState) : Type 0 where
   pub fit : FitProcedures n.amf (running_for n.timers)
   pub distinct : AreDistinct n.amf.subscribers
   pub same : timed n.timers ≡ supis n.amf.subscribers
   pub known : smf_laws.supis n.smf.subscribers ≡ timed n.timers
   pub few : all_keep_few n.amf.subscribers ≡ true
+  pub consistent : AreConsistent n.amf.subscribers
   pub sessions : AreSessions n.smf
 
 pub record HaveOwners (n : NetworkState) : Type 0 where

@@ -4,7 +4,7 @@ ghost use Rattle.amf_core.specs.Naming.{is_kept_for_another};
 ghost use Rattle.amf_core.specs.State.{view_in};
 ghost use Rattle.nas_network.specs.TakingOver.{FollowsCommand, taken_over};
 ghost use Rattle.nas_network.specs.Network.{Commands, amf_commanded, answered, commanded, delivered, dropped, most_taken, smf_commanded, smf_outcome, takes_commands};
-ghost use Rattle.nas_network.specs.Owners.{HaveOwners, IsNoExpiry, all_keep_few};
+ghost use Rattle.nas_network.specs.Owners.{HaveOwners, IsNoExpiry, all_keep_few, all_keep_one};
 ghost use Rattle.nas_network.specs.State.{first};
 ghost use Rattle.nas_network.specs.Ticks.{ticked};
 ghost use Rattle.nas_network.specs.Turns.{begun, is_unrefused, smf_stepped, turned};
@@ -287,6 +287,15 @@ impl Network {
     /// nothing.
     pub fn keeps_few(&self)
         ensures { all_keep_few self.now.amf.subscribers ≡ true }
+    {
+        let _amf = &self.amf;
+    }
+
+    /// A law of every network: one 5G-GUTI alone is kept for a subscriber whose last one is confirmed (TS 24.501 clauses 5.4.4 and
+    /// 5.5.1.2.4). It does nothing.
+    #[tactic(auto, using(crate::proofs::Few::all_keep_one_alone))]
+    pub fn keeps_one(&self)
+        ensures { all_keep_one self.now.amf.subscribers ≡ true }
     {
         let _amf = &self.amf;
     }

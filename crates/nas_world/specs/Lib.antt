@@ -3,12 +3,16 @@ pub mod Cards
 pub mod CommandLines
 pub mod Config
 pub mod Events
+pub mod Gutis
 pub mod Honest
 pub mod Index
+pub mod Keys
 pub mod Lines
 pub mod Logs
 pub mod MessageLines
+pub mod Numbered
 pub mod OrderLines
 pub mod Script
+pub mod Sessions
 pub mod State
 pub mod Taken

@@ -1,23 +1,31 @@
 -- What is logged of a run.
-use Rattle.std.specs.Prelude.{ℕ, ◌-◌, Bool, false, List, [], ◌∷◌, ◌++◌, ◌==◌, ◌&&◌, Option, Some, None, slice_get, if◌then◌else◌}
+use Rattle.std.specs.Prelude.{ℕ, Bool, false, List, [], ◌∷◌, ◌++◌, ◌==◌, ◌&&◌, Option, Some, None}
 use Rattle.std.specs.List.{list_any}
 use Rattle.std.specs.Str.{bytes_eq}
 use Rattle.nas_base.specs.Branches.{per}
 use Rattle.nas_security.specs.Contexts.{is_challenge}
 use Rattle.nas_security.specs.declared.sends.Pass.{Pass}
 use Rattle.nas_security.specs.declared.sends.Send.{Send}
+use Rattle.nas_world.specs.Numbered.{changed}
 use Rattle.nas_world.specs.declared.logs.SentLog.{SentLog}
 
--- messages of one direction more
+-- on a link: messages more of one direction
 abbrev pub with_up : List Send → SentLog → SentLog
 with_up sends s = record s { up = s.up ++ sends }
 
 abbrev pub with_down : List Send → SentLog → SentLog
 with_down sends s = record s { down = s.down ++ sends }
 
--- the message of this number, counted from 1
-abbrev pub sent_at : {A : Type 0} → ℕ → List A → Option A
-sent_at number sends = if number == 0 then None else slice_get sends (number - 1)
+-- What a handset sends goes up its link. What the network sends goes down the link that the message names.
+unfoldable pub logged_up : ℕ → List Send → List SentLog → List SentLog
+logged_up who sends logs = changed who (with_up sends) logs
+
+unfoldable pub logged_on_link : Send → List SentLog → List SentLog
+logged_on_link s logs = changed s.link (with_down (s ∷ [])) logs
+
+abbrev pub logged_down : List Send → List SentLog → List SentLog
+logged_down [] logs = logs
+logged_down (s ∷ sends) logs = logged_down sends (logged_on_link s logs)
 
 -- a list, and behind it what is there
 abbrev pub also : {A : Type 0} → List A → Option A → List A

@@ -1,13 +1,15 @@
 //! What was sent and what passed a check, with the verdict whether nobody forged.
-ghost use Rattle.std.specs.Prelude.{◌≡◌, ◌<◌, ◌^◌, [], ◌∷◌, ◌++◌, ◌&&◌, true, option_map, length, OnOk, OnErr};
+ghost use Rattle.std.specs.Prelude.{◌≡◌, ◌<◌, ◌^◌, [], ◌∷◌, ◌++◌, ◌&&◌, true, option_map, replicate, IfOk, OnOk, OnErr};
 ghost use Rattle.nas_base.specs.Branches.{per};
-ghost use Rattle.nas_world.specs.Honest.{all_honest, card_in, has_kamf_of, has_net_kamf, heard_down, heard_up, net_kamf, passing, with_sent_down, with_sent_up};
+ghost use Rattle.nas_world.specs.Honest.{all_honest, card_in, has_kamf_of, has_net_kamf, heard_down, heard_up, net_kamf, passing, sizes_to, with_sent_down, with_sent_up};
+ghost use Rattle.nas_world.specs.Logs.{logged_down, logged_up};
+ghost use Rattle.nas_world.specs.State.{nothing_sent};
 ghost use Rattle.nas_world.specs.declared.passes.End.TheVariants as ends;
 
 use crate::SentLog;
 use crate::cards::Card;
 use crate::passes::{End, Heard, Passing};
-use crate::sent::Sent;
+use crate::sent::{Sent, sizes_to};
 use key_chain::{ABBA, challenge_kamf};
 use milenage::make_vector;
 use nas_base::{Memory, Plmn, Supi};
@@ -34,31 +36,41 @@ impl Model for Judged {
 
     ghost Value = { JudgedLog };
 
-    ghost view = { λ j. record { up = j.sent.up; down = j.sent.down; passes = j.passes.items; plmn = j.plmn; cards = j.cards.items } };
+    ghost view = { λ j. record { sent = j.sent; passes = j.passes.items; plmn = j.plmn; cards = j.cards.items } };
 
-    ghost invariant = { λ j. AreJudged (record { up = j.sent.up; down = j.sent.down; passes = j.passes.items; plmn = j.plmn; cards = j.cards.items }) j.honest };
+    ghost invariant = { λ j. AreJudged (record { sent = j.sent; passes = j.passes.items; plmn = j.plmn; cards = j.cards.items }) j.honest };
 }
 
 impl Judged {
-    /// Nothing was sent, and nothing passed a check.
+    /// Nothing was sent on any of so many links, and nothing passed a check.
+    ///
+    /// # Errors
+    ///
+    /// `Memory`.
     #[tactic(auto, unfolding(crate::specs::Honest::all_honest))]
-    pub fn new(alloc: Global, plmn: Plmn, cards: Vec<Card>) -> Judged
-        ensures { result ≡ record { up = []; down = []; passes = []; plmn = plmn; cards = cards.items } }
+    pub fn new(
+        alloc: Global,
+        links: usize,
+        plmn: Plmn,
+        cards: Vec<Card>,
+    ) -> Result<Judged, Memory>
+        ensures { IfOk result (λ judged. judged ≡ record { sent = replicate links nothing_sent; passes = []; plmn = plmn; cards = cards.items }) }
     {
-        Judged {
-            sent: Sent::new(alloc),
+        let sent = Sent::new(alloc, links)?;
+        Ok(Judged {
+            sent,
             passes: Vec::new(alloc),
             plmn,
             cards,
             honest: true,
-        }
+        })
     }
 
-    /// All that was sent.
-    pub fn sent(&self) -> &SentLog
-        ensures { result.now ≡ record { up = self.now.up; down = self.now.down } }
+    /// All that was sent, on each link.
+    pub fn sent(&self) -> &[SentLog]
+        ensures { result.now ≡ self.now.sent }
     {
-        self.sent.log()
+        self.sent.logs()
     }
 
     /// Whether nobody forged.
@@ -68,16 +80,16 @@ impl Judged {
         self.honest
     }
 
-    /// The handset sent messages.
+    /// A handset sent messages.
     ///
     /// # Errors
     ///
     /// `Memory`; nothing then changes.
-    pub fn send_up(&mut self, alloc: Global, sends: Sends) -> Result<(), Memory>
-        ensures ok { OnOk result (self.new ≡ with_sent_up sends self.old) }
+    pub fn send_up(&mut self, alloc: Global, who: u8, sends: Sends) -> Result<(), Memory>
+        ensures ok { OnOk result (self.new ≡ with_sent_up who sends self.old) }
         ensures err { OnErr result (self.new ≡ self.old) }
     {
-        self.sent.add_up(alloc, sends)?;
+        self.sent.add_up(alloc, who, sends)?;
         Ok(())
     }
 
@@ -94,13 +106,13 @@ impl Judged {
         Ok(())
     }
 
-    /// Octets reached the handset.
+    /// Octets reached a handset.
     ///
     /// # Errors
     ///
     /// `Memory`; nothing then changes.
-    pub fn hear_up(&mut self, alloc: Global, heard: Heard) -> Result<(), Memory>
-        ensures ok { OnOk result (self.new ≡ heard_up heard self.old) }
+    pub fn hear_up(&mut self, alloc: Global, who: u8, heard: Heard) -> Result<(), Memory>
+        ensures ok { OnOk result (self.new ≡ heard_up who heard self.old) }
         ensures err { OnErr result (self.new ≡ self.old) }
     {
         let Heard {
@@ -110,16 +122,16 @@ impl Judged {
             sends,
         } = heard;
         match passed {
-            None => self.send_up(alloc, sends),
+            None => self.send_up(alloc, who, sends),
             Some(pass) => {
                 let passing = Passing {
                     end: End::Handset,
                     pass,
                     octets,
-                    before: self.sent().down.as_slice().len(),
+                    before: sizes_to(alloc, End::Handset, self.sent())?,
                     took,
                 };
-                self.pass_up(alloc, passing, sends)
+                self.pass_up(alloc, who, passing, sends)
             }
         }
     }
@@ -146,7 +158,7 @@ impl Judged {
                     end: End::Network,
                     pass,
                     octets,
-                    before: self.sent().up.as_slice().len(),
+                    before: sizes_to(alloc, End::Network, self.sent())?,
                     took,
                 };
                 self.pass_down(alloc, passing, sends)
@@ -154,11 +166,17 @@ impl Judged {
         }
     }
 
-    // A delivery passed at the handset, which then sent messages.
-    fn pass_up(&mut self, alloc: Global, passing: Passing, sends: Sends) -> Result<(), Memory>
+    // A delivery passed at a handset, which then sent messages.
+    fn pass_up(
+        &mut self,
+        alloc: Global,
+        who: u8,
+        passing: Passing,
+        sends: Sends,
+    ) -> Result<(), Memory>
         requires at { passing.end ≡ ends.Handset }
-        requires all { passing.before ≡ length self.old.down }
-        ensures ok { OnOk result (self.new ≡ record self.old { up = self.old.up ++ sends; passes = self.old.passes ++ passing ∷ [] }) }
+        requires all { passing.before ≡ sizes_to ends.Handset self.old.sent }
+        ensures ok { OnOk result (self.new ≡ record self.old { sent = logged_up who sends self.old.sent; passes = self.old.passes ++ passing ∷ [] }) }
         ensures err { OnErr result (self.new ≡ self.old) }
     {
         let was_sent = self.sent.has_down(alloc, &passing.pass, &passing.octets)?;
@@ -166,7 +184,7 @@ impl Judged {
         if self.passes.reserve(1).is_err() {
             return Err(Memory);
         }
-        self.sent.add_up(alloc, sends)?;
+        self.sent.add_up(alloc, who, sends)?;
         self.passes.push_reserved(passing);
         self.honest = honest;
         Ok(())
@@ -175,8 +193,8 @@ impl Judged {
     // A delivery passed at the network, which then sent messages.
     fn pass_down(&mut self, alloc: Global, passing: Passing, sends: Sends) -> Result<(), Memory>
         requires at { passing.end ≡ ends.Network }
-        requires all { passing.before ≡ length self.old.up }
-        ensures ok { OnOk result (self.new ≡ record self.old { down = self.old.down ++ sends; passes = self.old.passes ++ passing ∷ [] }) }
+        requires all { passing.before ≡ sizes_to ends.Network self.old.sent }
+        ensures ok { OnOk result (self.new ≡ record self.old { sent = logged_down sends self.old.sent; passes = self.old.passes ++ passing ∷ [] }) }
         ensures err { OnErr result (self.new ≡ self.old) }
     {
         let was_sent = self.sent.has_up(alloc, &passing.pass, &passing.octets)?;

@@ -9,7 +9,10 @@ mod commands;
 mod config;
 mod deliveries;
 mod event;
+mod gutis;
+mod handsets;
 mod honesty;
+mod keys;
 mod line;
 mod logs;
 mod message_lines;
@@ -20,6 +23,7 @@ mod refusals;
 mod script;
 mod seen;
 mod sent;
+mod sessions;
 mod taken;
 mod world;
 

@@ -1,6 +1,6 @@
 //! What both ends sent, and the contexts that handsets took into use.
-ghost use Rattle.std.specs.Prelude.{◌≡◌, option_copied, IfOk};
-ghost use Rattle.nas_world.specs.Logs.{sent_at};
+ghost use Rattle.std.specs.Prelude.{◌≡◌, option_copied, option_map, IfOk};
+ghost use Rattle.nas_world.specs.Numbered.{numbered};
 
 use nas_base::Memory;
 use nas_security::{Context, Send, Sends};
@@ -36,13 +36,20 @@ impl Model for TakenLog {
     ghost view = { λ t. t.items.items };
 }
 
+/// The log of the link of a number.
+pub fn log_of(logs: &[SentLog], who: u8) -> Option<&SentLog>
+    ensures { option_map (λ l. l.now) result ≡ numbered who logs.now }
+{
+    logs.get(usize::from(who).checked_sub(1)?)
+}
+
 /// A copy of the message of this number, counted from 1, if there is one.
 ///
 /// # Errors
 ///
 /// `Memory`.
 pub fn copied_at(alloc: Global, sends: &Sends, number: u32) -> Result<Option<Send>, Memory>
-    ensures { IfOk result (λ send. send ≡ sent_at number sends.now) }
+    ensures { IfOk result (λ send. send ≡ numbered number sends.now) }
 {
     match at(sends, number) {
         None => Ok(None),
@@ -52,7 +59,7 @@ pub fn copied_at(alloc: Global, sends: &Sends, number: u32) -> Result<Option<Sen
 
 // The message of this number, counted from 1.
 fn at(sends: &Sends, number: u32) -> Option<&Send>
-    ensures { option_copied result ≡ sent_at number sends.now }
+    ensures { option_copied result ≡ numbered number sends.now }
 {
     sends.as_slice().get((number as usize).checked_sub(1)?)
 }

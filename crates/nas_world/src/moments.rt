@@ -2,23 +2,24 @@
 ghost use Rattle.std.specs.Prelude.{◌≡◌, IfOk, OnErr};
 ghost use Rattle.nas_world.specs.Events.{net_dropped, net_ticked, restarted, ue_dropped, ue_ticked};
 
+use crate::handsets::{self, handset_of};
 use crate::{Seen, World};
 use nas_base::{Memory, Moment};
 use nas_security::Sends;
 use std::alloc::Global;
 
-// There is one link.
-const LINK: u16 = 1;
-
 impl World {
-    /// The handset is told the moment.
-    #[tactic(auto, unfolding(crate::specs::Events::ue_ticked))]
-    pub(crate) fn ue_at(&mut self, alloc: Global, now: Moment) -> Result<Seen, Memory>
-        ensures ok { IfOk result (λ seen. ue_ticked now self.old ≡ (self.new, seen)) }
+    /// A handset is told the moment.
+    #[tactic(auto, unfolding(crate::specs::Events::ue_ticked, nas_base::specs::Branches::per))]
+    pub(crate) fn ue_at(&mut self, alloc: Global, who: u8, now: Moment) -> Result<Seen, Memory>
+        ensures ok { IfOk result (λ seen. ue_ticked who now self.old ≡ (self.new, seen)) }
         ensures err { OnErr result (self.new ≡ self.old) }
     {
-        let (turn, sends) = self.handset.follow_tick(alloc, now)?;
-        self.handset_sends(alloc, turn, sends)
+        let Some(handset) = handset_of(self.handsets.as_slice(), who) else {
+            return Ok(Seen::no_handset(alloc));
+        };
+        let (turn, sends) = handset.follow_tick(alloc, now)?;
+        self.handset_sends(alloc, who, turn, sends)
     }
 
     /// The network is told the moment.
@@ -31,33 +32,42 @@ impl World {
         self.network_sends(alloc, turn, delivery.sends)
     }
 
-    /// The handset loses its connection.
-    #[tactic(auto, unfolding(crate::specs::Events::ue_dropped))]
-    pub(crate) fn drop_ue(&mut self, alloc: Global) -> Result<Seen, Memory>
-        ensures ok { IfOk result (λ seen. ue_dropped self.old ≡ (self.new, seen)) }
+    /// A handset loses its connection.
+    #[tactic(auto, unfolding(crate::specs::Events::ue_dropped, nas_base::specs::Branches::per))]
+    pub(crate) fn drop_ue(&mut self, alloc: Global, who: u8) -> Result<Seen, Memory>
+        ensures ok { IfOk result (λ seen. ue_dropped who self.old ≡ (self.new, seen)) }
         ensures err { OnErr result (self.new ≡ self.old) }
     {
-        self.handset.drop_link(alloc)?;
+        if handset_of(self.handsets.as_slice(), who).is_none() {
+            return Ok(Seen::no_handset(alloc));
+        }
+        handsets::drop_link(alloc, self.handsets.as_mut_slice(), who)?;
         Ok(Seen::of(Sends::new(alloc)))
     }
 
-    /// The network loses the link.
-    #[tactic(auto, unfolding(crate::specs::Events::net_dropped))]
-    pub(crate) fn drop_net(&mut self, alloc: Global) -> Result<Seen, Memory>
-        ensures ok { IfOk result (λ seen. net_dropped self.old ≡ (self.new, seen)) }
+    /// The network loses a link.
+    #[tactic(auto, unfolding(crate::specs::Events::net_dropped, nas_base::specs::Branches::per))]
+    pub(crate) fn drop_net(&mut self, alloc: Global, who: u8) -> Result<Seen, Memory>
+        ensures ok { IfOk result (λ seen. net_dropped who self.old ≡ (self.new, seen)) }
         ensures err { OnErr result (self.new ≡ self.old) }
     {
-        self.network.drop_link(alloc, LINK)?;
+        if handset_of(self.handsets.as_slice(), who).is_none() {
+            return Ok(Seen::no_handset(alloc));
+        }
+        self.network.drop_link(alloc, u16::from(who))?;
         Ok(Seen::of(Sends::new(alloc)))
     }
 
-    /// The handset is switched off and on.
-    #[tactic(auto, unfolding(crate::specs::Events::restarted))]
-    pub(crate) fn restart(&mut self, alloc: Global) -> Result<Seen, Memory>
-        ensures ok { IfOk result (λ seen. restarted self.old ≡ (self.new, seen)) }
+    /// A handset is switched off and on.
+    #[tactic(auto, unfolding(crate::specs::Events::restarted, nas_base::specs::Branches::per))]
+    pub(crate) fn restart(&mut self, alloc: Global, who: u8) -> Result<Seen, Memory>
+        ensures ok { IfOk result (λ seen. restarted who self.old ≡ (self.new, seen)) }
         ensures err { OnErr result (self.new ≡ self.old) }
     {
-        self.handset.restart(alloc)?;
+        if handset_of(self.handsets.as_slice(), who).is_none() {
+            return Ok(Seen::no_handset(alloc));
+        }
+        handsets::restart(alloc, self.handsets.as_mut_slice(), who)?;
         Ok(Seen::of(Sends::new(alloc)))
     }
 }

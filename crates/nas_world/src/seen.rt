@@ -1,5 +1,6 @@
 //! What is seen of an event.
 ghost use Rattle.std.specs.Prelude.{◌≡◌, [], true, false, Some, None};
+ghost use Rattle.nas_world.specs.declared.event.RefusedWord.TheVariants as words;
 
 use crate::RefusedWord;
 use nas_security::Sends;
@@ -10,7 +11,7 @@ use std::alloc::Global;
 pub struct Seen {
     /// The messages that were sent, in order.
     pub sends: Sends,
-    /// The refusal of the end's command, where it was refused.
+    /// The refusal of the end's command, where it was refused, or of an event that named no handset.
     pub refused: Option<RefusedWord>,
     /// Whether a message was to be delivered whose number wasn't sent.
     pub nothing: bool,
@@ -37,6 +38,13 @@ impl Seen {
             refused: Some(word),
             nothing: false,
         }
+    }
+
+    /// There is no handset of the number.
+    pub(crate) fn no_handset(alloc: Global) -> Seen
+        ensures { result ≡ record { sends = []; refused = Some words.NoHandset; nothing = false } }
+    {
+        Seen::refusal(alloc, RefusedWord::NoHandset)
     }
 
     /// The number wasn't sent.

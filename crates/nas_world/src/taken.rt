@@ -1,11 +1,11 @@
-//! The security contexts that the handset took into use, with an index of them.
-ghost use Rattle.std.specs.Prelude.{◌≡◌, [], ◌∷◌, ◌++◌, OnOk, OnErr};
+//! The security contexts that handsets took into use, with an index of them.
+ghost use Rattle.std.specs.Prelude.{◌≡◌, [], ◌∷◌, ◌++◌, option_map, OnOk, OnErr};
 ghost use Rattle.nas_world.specs.Honest.{heard_up};
 ghost use Rattle.nas_world.specs.Logs.{also};
-ghost use Rattle.nas_world.specs.Taken.{Finds, taken_key, was_taken};
+ghost use Rattle.nas_world.specs.Taken.{Finds, taken_by, taken_key, was_taken};
 ghost use Rattle.nas_world.specs.contracts.taken.TakenKeyPartialEq.TheImpl as key;
 
-use crate::TakenLog;
+use crate::{Taken, TakenLog};
 use crate::honesty::Judged;
 use crate::passes::Heard;
 use indexmap::IndexSet;
@@ -14,9 +14,10 @@ use nas_security::Context;
 use std::alloc::Global;
 use std::marker::Model;
 
-/// What a context is found by: its challenge, ngKSI, KAMF, algorithms and NAS keys.
+/// What a context of a handset is found by: the handset's number, and the context's challenge, ngKSI, KAMF, algorithms and NAS keys.
 #[derive(Clone, Copy, PartialEq, Eq, Hash)]
 pub struct TakenKey {
+    pub who: u8,
     pub sqn: u64,
     pub rand: [u8; 16],
     pub ksi: u8,
@@ -29,31 +30,31 @@ pub struct TakenKey {
 
 /// The contexts, with their index.
 #[derive(Drop)]
-pub struct Taken {
+pub struct TakenContexts {
     log: TakenLog,
     index: IndexSet<TakenKey>,
 }
 
-impl Model for Taken {
+impl Model for TakenContexts {
     ghost use Rattle.std.specs.Prelude.{List};
-    ghost use Rattle.nas_security.specs.Contexts.{SecurityContext};
     ghost use Rattle.nas_world.specs.Taken.{Finds};
     ghost use Rattle.nas_world.specs.contracts.taken.TakenKeyPartialEq.TheImpl as key;
+    ghost use Rattle.nas_world.specs.declared.logs.Taken.{Taken};
 
-    ghost Value = { List SecurityContext };
+    ghost Value = { List Taken };
 
     ghost view = { λ t. t.log };
 
     ghost invariant = { λ t. Finds key.ghosts.eq t.index t.log };
 }
 
-impl Taken {
+impl TakenContexts {
     /// No context was taken into use.
     #[tactic(auto, using(crate::proofs::Finding::nothing_found))]
-    pub fn new(alloc: Global) -> Taken
+    pub fn new(alloc: Global) -> TakenContexts
         ensures { result ≡ [] }
     {
-        Taken {
+        TakenContexts {
             log: TakenLog {
                 items: Vec::new(alloc),
             },
@@ -68,31 +69,38 @@ impl Taken {
         &self.log
     }
 
-    /// Whether one of them is the same as this one. It doesn't walk the log.
-    pub fn has(&self, context: &Context) -> bool
-        ensures { result ≡ was_taken context.now self.now }
+    /// Whether a handset took one that is the same as this one. It doesn't walk the log.
+    pub fn has(&self, who: u8, context: &Context) -> bool
+        ensures { result ≡ was_taken who context.now self.now }
     {
-        self.index.contains(&key_of(context))
+        self.index.contains(&key_of(who, context))
     }
 
-    /// Octets reached the handset, which may have taken a context into use by them. All is logged or nothing.
+    /// Octets reached a handset, which may have taken a context into use by them. All is logged or nothing.
     ///
     /// # Errors
     ///
     /// `Memory`; nothing then changes.
-    pub fn hear(&mut self, alloc: Global, judged: &mut Judged, heard: Heard) -> Result<(), Memory>
-        ensures ok { OnOk result ((self.new ≡ also self.old heard.took) × (judged.new ≡ heard_up heard judged.old)) }
+    pub fn hear(
+        &mut self,
+        alloc: Global,
+        judged: &mut Judged,
+        who: u8,
+        heard: Heard,
+    ) -> Result<(), Memory>
+        ensures ok { OnOk result ((self.new ≡ also self.old (option_map (taken_by who) heard.took)) × (judged.new ≡ heard_up who heard judged.old)) }
         ensures err { OnErr result ((self.new ≡ self.old) × (judged.new ≡ judged.old)) }
     {
         let took = heard.took;
         match took {
-            None => judged.hear_up(alloc, heard),
+            None => judged.hear_up(alloc, who, heard),
             Some(context) => {
                 hear_taking(
                     alloc,
                     &mut self.log,
                     &mut self.index,
                     judged,
+                    who,
                     heard,
                     context,
                 )?;
@@ -102,18 +110,19 @@ impl Taken {
     }
 }
 
-// Octets reached the handset, which took a context into use by them.
+// Octets reached a handset, which took a context into use by them.
 fn hear_taking(
     alloc: Global,
     log: &mut TakenLog,
     index: &mut IndexSet<TakenKey>,
     judged: &mut Judged,
+    who: u8,
     heard: Heard,
     context: Context,
 ) -> Result<(), Memory>
     requires { Finds key.ghosts.eq index.old log.old }
     ensures found { Finds key.ghosts.eq index.new log.new }
-    ensures ok { OnOk result ((log.new ≡ log.old ++ context ∷ []) × (judged.new ≡ heard_up heard judged.old)) }
+    ensures ok { OnOk result ((log.new ≡ log.old ++ taken_by who context ∷ []) × (judged.new ≡ heard_up who heard judged.old)) }
     ensures err { OnErr result ((log.new ≡ log.old) × (judged.new ≡ judged.old)) }
 {
     let Ok(()) = log.items.reserve(1) else {
@@ -122,21 +131,22 @@ fn hear_taking(
     let Ok(()) = index.reserve(1) else {
         return Err(Memory);
     };
-    judged.hear_up(alloc, heard)?;
-    let Ok(_) = index.insert(key_of(&context)) else {
+    judged.hear_up(alloc, who, heard)?;
+    let Ok(_) = index.insert(key_of(who, &context)) else {
         unreachable!();
     };
-    log.items.push_reserved(context);
+    log.items.push_reserved(Taken { who, context });
     Ok(())
 }
 
-// What a context is found by.
-fn key_of(context: &Context) -> TakenKey
-    ensures { result ≡ taken_key context.now }
+// What a context of a handset is found by.
+fn key_of(who: u8, context: &Context) -> TakenKey
+    ensures { result ≡ taken_key who context.now }
 {
     let ksi = context.ksi;
     let algs = context.algs;
     TakenKey {
+        who,
         sqn: context.challenge.sqn,
         rand: context.challenge.rand,
         ksi: ksi.0,

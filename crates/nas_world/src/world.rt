@@ -1,11 +1,13 @@
 //! Both ends, and their events one by one.
-ghost use Rattle.std.specs.Prelude.{◌≡◌, IfOk, OnErr};
+ghost use Rattle.std.specs.Prelude.{◌≡◌, Some, true, length, IfOk, OnErr};
 ghost use Rattle.nas_world.specs.Events.{step_of};
+ghost use Rattle.nas_world.specs.Numbered.{is_number, numbered};
 ghost use Rattle.nas_world.specs.State.{first, honest};
 
 use crate::cards::cards_of;
+use crate::handsets::{new_handsets, supis_of};
 use crate::honesty::Judged;
-use crate::taken::Taken;
+use crate::taken::TakenContexts;
 use crate::{Event, Seen, SentLog, TakenLog, WorldConfig};
 use nas_base::{Memory, Supi};
 use nas_handset::Handset;
@@ -14,28 +16,31 @@ use nas_security::Sends;
 use std::alloc::Global;
 use std::marker::Model;
 
-/// A handset and a network, with the logs of what each has sent, of what passed a check, and of the security contexts that the handset
-/// took into use.
+/// 1 to 16 handsets and a network, with the logs of what was sent on each link, of what passed a check, and of the security contexts that
+/// handsets took into use. Handsets are numbered from 1, and the link of each has its number. The cost of an event, and of `honest` and
+/// `agree`, is independent of how much is logged; memory grows with what is.
 #[derive(Drop)]
 pub struct World {
-    pub(crate) handset: Handset,
+    pub(crate) handsets: Vec<Handset>,
     pub(crate) network: Network,
     pub(crate) random: [u8; 16],
     pub(crate) judged: Judged,
-    pub(crate) taken: Taken,
-    pub(crate) supi: Supi,
+    pub(crate) taken: TakenContexts,
+    pub(crate) supis: Vec<Supi>,
 }
 
 impl Model for World {
-    ghost use Rattle.nas_world.specs.State.{WorldState};
+    ghost use Rattle.nas_world.specs.State.{AreNumbered, WorldState};
 
     ghost Value = { WorldState };
 
-    ghost view = { λ w. record { handset = w.handset; network = w.network; random = w.random; up = w.judged.up; down = w.judged.down; taken = w.taken; passes = w.judged.passes; plmn = w.judged.plmn; cards = w.judged.cards; supi = w.supi } };
+    ghost view = { λ w. record { handsets = w.handsets.items; network = w.network; random = w.random; sent = w.judged.sent; taken = w.taken; passes = w.judged.passes; plmn = w.judged.plmn; cards = w.judged.cards; supis = w.supis.items } };
+
+    ghost invariant = { λ w. AreNumbered w.handsets.items w.judged.sent w.supis.items };
 }
 
 impl World {
-    /// The world of no events: the handset is Deregistered and idle, the network knows nothing yet of its subscribers, and nothing was
+    /// The world of no events: each handset is Deregistered and idle, the network knows nothing yet of its subscribers, and nothing was
     /// sent.
     ///
     /// # Errors
@@ -44,22 +49,24 @@ impl World {
     pub fn new(alloc: Global, config: &WorldConfig) -> Result<World, Memory>
         ensures { IfOk result (λ world. world ≡ first config.now) }
     {
-        let own = &config.handset;
+        let configs = config.handsets.as_slice();
         let net = &config.net;
-        let handset = Handset::new(alloc, own)?;
+        let handsets = new_handsets(alloc, configs)?;
+        let supis = supis_of(alloc, configs)?;
         let network = Network::new(alloc, net)?;
         let cards = cards_of(alloc, net.subscribers.as_slice())?;
+        let judged = Judged::new(alloc, configs.len(), net.plmn.copy(), cards)?;
         Ok(World {
-            handset,
+            handsets,
             network,
             random: [0; 16],
-            judged: Judged::new(alloc, net.plmn.copy(), cards),
-            taken: Taken::new(alloc),
-            supi: own.supi.copy(),
+            judged,
+            taken: TakenContexts::new(alloc),
+            supis,
         })
     }
 
-    /// One event.
+    /// One event. An event that is refused changes nothing, and neither does one that names a handset that isn't there.
     ///
     /// # Errors
     ///
@@ -69,17 +76,19 @@ impl World {
         ensures err { OnErr result (self.new ≡ self.old) }
     {
         match event {
-            Event::Command(command) => self.command(alloc, command),
-            Event::NetCommand(order) => self.order(alloc, *order),
-            Event::ToNet(number) => self.to_net(alloc, *number),
-            Event::ToUe(number) => self.to_ue(alloc, *number),
-            Event::InjectNet { fresh, octets } => self.inject_net(alloc, *fresh, octets),
-            Event::InjectUe(octets) => self.inject_ue(alloc, octets),
-            Event::UeAt(now) => self.ue_at(alloc, *now),
+            Event::Command { who, command } => self.command(alloc, *who, command),
+            Event::NetCommand { who, order } => self.order(alloc, *who, order),
+            Event::ToNet { who, k } => self.to_net(alloc, *who, *k),
+            Event::ToUe { who, k } => self.to_ue(alloc, *who, *k),
+            Event::InjectNet { who, fresh, octets } => {
+                self.inject_net(alloc, *who, *fresh, octets)
+            }
+            Event::InjectUe { who, octets } => self.inject_ue(alloc, *who, octets),
+            Event::UeAt { who, at } => self.ue_at(alloc, *who, *at),
             Event::NetAt(now) => self.net_at(alloc, *now),
-            Event::DropUe => self.drop_ue(alloc),
-            Event::DropNet => self.drop_net(alloc),
-            Event::Restart => self.restart(alloc),
+            Event::DropUe { who } => self.drop_ue(alloc, *who),
+            Event::DropNet { who } => self.drop_net(alloc, *who),
+            Event::Restart { who } => self.restart(alloc, *who),
             Event::Random(words) => {
                 self.random = *words;
                 Ok(Seen::of(Sends::new(alloc)))
@@ -87,11 +96,19 @@ impl World {
         }
     }
 
-    /// The handset.
-    pub fn handset(&self) -> &Handset
-        ensures { result.now ≡ self.now.handset }
+    /// How many handsets there are.
+    pub fn count(&self) -> u8
+        ensures { result ≡ length self.now.handsets }
     {
-        &self.handset
+        self.handsets.len() as u8
+    }
+
+    /// The handset of a number, which is there.
+    pub fn handset(&self, who: u8) -> &Handset
+        requires { is_number who self.now.handsets ≡ true }
+        ensures { numbered who self.now.handsets ≡ Some result.now }
+    {
+        &self.handsets[usize::from(who) - 1]
     }
 
     /// The network.
@@ -101,14 +118,15 @@ impl World {
         &self.network
     }
 
-    /// All that was sent.
-    pub fn sent(&self) -> &SentLog
-        ensures { result.now ≡ record { up = self.now.up; down = self.now.down } }
+    /// All that was sent on the link of a handset, which is there.
+    pub fn sent(&self, who: u8) -> &SentLog
+        requires { is_number who self.now.handsets ≡ true }
+        ensures { numbered who self.now.sent ≡ Some result.now }
     {
-        self.judged.sent()
+        &self.judged.sent()[usize::from(who) - 1]
     }
 
-    /// The security contexts that the handset took into use.
+    /// The security contexts that handsets took into use.
     pub fn taken(&self) -> &TakenLog
         ensures { result.now ≡ self.now.taken }
     {
