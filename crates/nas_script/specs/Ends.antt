@@ -1,8 +1,9 @@
 -- The lines of both ends in a transcript.
-use Rattle.std.specs.Prelude.{ℕ, ◌+◌, Bool, List, [], ◌∷◌, ◌++◌, codes, Option, Some, None, if◌then◌else◌}
+use Rattle.std.specs.Prelude.{ℕ, zero, suc, Bool, List, [], ◌∷◌, ◌++◌, length, nat_lt, codes, Option, Some, None, if◌then◌else◌}
 use Rattle.std.specs.Fmt.{decimal}
 use Rattle.byteorder.specs.Endian.{big_bytes}
 use Rattle.hex.specs.Hex.{encode_lower}
+use Rattle.nas_base.specs.Branches.{per}
 use Rattle.nas_base.specs.declared.state_words.AmfWord.{AmfWord}
 use Rattle.nas_base.specs.declared.state_words.AmfWord.TheVariants as amf
 use Rattle.nas_base.specs.declared.state_words.MmWord.{MmWord}
@@ -11,11 +12,13 @@ use Rattle.nas_elements.specs.declared.guti.Guti.{Guti}
 use Rattle.nas_security.specs.Contexts.{SecurityContext}
 use Rattle.amf_core.specs.State.{view_in}
 use Rattle.amf_core.specs.declared.view.NetView.{NetView}
+use Rattle.nas_handset.specs.State.{HandsetState}
 use Rattle.nas_network.specs.State.{NetworkState}
+use Rattle.nas_world.specs.Numbered.{numbered}
+use Rattle.nas_world.specs.State.{WorldState}
 use Rattle.ue_mm.specs.State.{view_of}
 use Rattle.ue_mm.specs.declared.view.UeView.{UeView}
 use Rattle.nas_script.specs.SessionLines.{sessions_text}
-use Rattle.nas_script.specs.Told.{Told, are_several}
 
 -- the handset's state; a registration is told in the same way wherever it began
 unfoldable pub mm_text : MmWord → List ℕ
@@ -84,20 +87,25 @@ net_text None = no_subscriber_text
 net_text (Some view) = subscriber_text view
 
 -- a handset, its subscriber, and its sessions at both
-unfoldable pub handset_text : NetworkState → Told → List ℕ
-handset_text n t = ue_text (view_of t.handset.mm) ++ (net_text (view_in t.supi n.amf) ++ sessions_text t.supi t.handset n)
+unfoldable pub handset_text : NetworkState → List ℕ → HandsetState → List ℕ
+handset_text n supi h = ue_text (view_of h.mm) ++ (net_text (view_in supi n.amf) ++ sessions_text supi h n)
+
+-- the handset of a number
+abbrev pub numbered_text : ℕ → WorldState → List ℕ
+numbered_text who w =
+    per (numbered who w.handsets) [] (λ (h : HandsetState).
+      per (numbered who w.supis) [] (λ (supi : List ℕ). handset_text w.network supi h))
 
 -- where there are several, each handset stands under a line of its number
 unfoldable pub number_line : ℕ → List ℕ
-number_line number = codes "  handset " ++ (decimal number ++ codes "\n")
+number_line who = codes "  handset " ++ (decimal who ++ codes "\n")
 
-abbrev pub handsets_text : NetworkState → ℕ → List Told → List ℕ
-handsets_text n number [] = []
-handsets_text n number (t ∷ ts) = number_line number ++ (handset_text n t ++ handsets_text n (number + 1) ts)
+unfoldable pub handsets_up_to : ℕ → WorldState → List ℕ
+handsets_up_to zero w = []
+handsets_up_to (suc who) w = handsets_up_to who w ++ (number_line (suc who) ++ numbered_text (suc who) w)
 
-abbrev pub only_text : NetworkState → List Told → List ℕ
-only_text n [] = []
-only_text n (t ∷ ts) = handset_text n t
+abbrev pub are_several : WorldState → Bool
+are_several w = nat_lt 1 (length w.handsets)
 
-abbrev pub ends_text : NetworkState → List Told → List ℕ
-ends_text n tolds = if are_several tolds then handsets_text n 1 tolds else only_text n tolds
+abbrev pub ends_text : WorldState → List ℕ
+ends_text w = if are_several w then handsets_up_to (length w.handsets) w else numbered_text 1 w

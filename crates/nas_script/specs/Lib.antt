@@ -17,5 +17,4 @@ pub mod SessionLines
 pub mod Slices
 pub mod Subscribers
 pub mod TimersTable
-pub mod Told
 pub mod Transcript

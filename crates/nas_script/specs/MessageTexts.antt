@@ -1,11 +1,13 @@
 -- The lines of an event's messages in a transcript.
-use Rattle.std.specs.Prelude.{ℕ, ◌+◌, ◌-◌, Bool, true, false, List, [], ◌∷◌, ◌++◌, codes, ◌==◌, if◌then◌else◌}
+use Rattle.std.specs.Prelude.{ℕ, ◌+◌, ◌-◌, Bool, List, [], ◌∷◌, ◌++◌, length, codes, ◌==◌, if◌then◌else◌}
 use Rattle.std.specs.Fmt.{decimal}
 use Rattle.hex.specs.Hex.{encode_lower}
+use Rattle.nas_base.specs.Branches.{per}
 use Rattle.nas_security.specs.declared.sends.Send.{Send}
+use Rattle.nas_world.specs.Numbered.{numbered}
 use Rattle.nas_world.specs.declared.event.Event.{Event}
 use Rattle.nas_world.specs.declared.event.Event.TheVariants as events
-use Rattle.nas_script.specs.Told.{Told, downs_on, ups_on}
+use Rattle.nas_world.specs.declared.logs.SentLog.{SentLog}
 use Rattle.nas_script.specs.declared.message_texts.Way.{Way}
 use Rattle.nas_script.specs.declared.message_texts.Way.TheVariants.{Up, Down}
 
@@ -33,9 +35,12 @@ abbrev pub link_of : Way → Send → ℕ
 link_of (Up who) s = who
 link_of Down s = s.link
 
-abbrev pub size_of : Way → ℕ → List Told → ℕ
-size_of (Up who) link tolds = ups_on link tolds
-size_of Down link tolds = downs_on link tolds
+abbrev pub log_size : Way → SentLog → ℕ
+log_size (Up who) log = length log.up
+log_size Down log = length log.down
+
+abbrev pub size_on : Way → ℕ → List SentLog → ℕ
+size_on way link logs = per (numbered link logs) 0 (log_size way)
 
 -- how many messages of these go on a link
 abbrev pub count_on : Way → ℕ → List Send → ℕ
@@ -43,8 +48,8 @@ count_on way link [] = 0
 count_on way link (s ∷ ss) = (if link_of way s == link then 1 else 0) + count_on way link ss
 
 -- the number of a message in its log, where only the later ones of the event stand behind it
-abbrev pub number_of : Way → List Told → Send → List Send → ℕ
-number_of way tolds s later = size_of way (link_of way s) tolds - count_on way (link_of way s) later
+abbrev pub number_of : Way → List SentLog → Send → List Send → ℕ
+number_of way logs s later = size_on way (link_of way s) logs - count_on way (link_of way s) later
 
 -- the link is told where there are several handsets
 unfoldable pub link_text : Bool → ℕ → List ℕ
@@ -55,7 +60,7 @@ message_text several way link number s =
     codes "  " ++ (way_text way ++ (codes " " ++ (link_text several link ++ (decimal number ++ (codes " " ++ (encode_lower s.octets ++ codes "\n"))))))
 
 -- the messages of an event, in the order in which they were sent
-abbrev pub messages_text : Bool → Way → List Told → List Send → List ℕ
-messages_text several way tolds [] = []
-messages_text several way tolds (s ∷ ss) =
-    message_text several way (link_of way s) (number_of way tolds s ss) s ++ messages_text several way tolds ss
+abbrev pub messages_text : Bool → Way → List SentLog → List Send → List ℕ
+messages_text several way logs [] = []
+messages_text several way logs (s ∷ ss) =
+    message_text several way (link_of way s) (number_of way logs s ss) s ++ messages_text several way logs ss

@@ -9,9 +9,8 @@ use Rattle.nas_world.specs.State.{WorldState, first, honest}
 use Rattle.nas_world.specs.declared.event.RefusedWord.{RefusedWord}
 use Rattle.nas_world.specs.declared.event.RefusedWord.TheVariants.{NoHandset, WrongState, NoSuchSession, SessionThere, Busy, Qos, NoPti, Spent, UnknownSupi, SqnSpent, Uncompleted, Updated, TmsiSpent, SessionBusy, Settling, NoChange}
 use Rattle.nas_world.specs.declared.seen.Seen.{Seen}
-use Rattle.nas_script.specs.Ends.{ends_text}
+use Rattle.nas_script.specs.Ends.{are_several, ends_text}
 use Rattle.nas_script.specs.MessageTexts.{messages_text, way_of}
-use Rattle.nas_script.specs.Told.{are_several, tolds_of}
 
 -- the form is told by the number of handsets that are configured
 unfoldable pub head_text : Bool → List ℕ
@@ -52,7 +51,7 @@ verdict_text honest agree = codes "honest " ++ (word_of honest ++ (codes " agree
 
 -- the world after an event
 abbrev pub world_text : WorldState → List ℕ
-world_text w = ends_text w.network (tolds_of w) ++ (codes "  " ++ verdict_text (honest w) (agree w))
+world_text w = ends_text w ++ (codes "  " ++ verdict_text (honest w) (agree w))
 
 -- the first line of an event: its number, and its line of the script as it was given
 unfoldable pub line_text : ℕ → List ℕ → List ℕ
@@ -62,7 +61,7 @@ line_text number line = decimal number ++ (codes " " ++ (line ++ codes "\n"))
 abbrev pub event_text : ℕ → Line → WorldState → Seen → List ℕ
 event_text number line w seen =
     line_text number line.text
-    ++ (messages_text (are_several (tolds_of w)) (way_of line.event) (tolds_of w) seen.sends
+    ++ (messages_text (are_several w) (way_of line.event) w.sent seen.sends
     ++ (refused_text seen.refused ++ (nothing_text seen.nothing ++ world_text w)))
 
 unfoldable pub end_text : ℕ → WorldState → List ℕ

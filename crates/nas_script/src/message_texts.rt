@@ -1,12 +1,12 @@
 //! The lines of an event's messages.
 ghost use Rattle.std.specs.Prelude.{◌≡◌, ◌++◌, ◌≤◌, length, OnOk};
-ghost use Rattle.nas_script.specs.MessageTexts.{count_on, link_of, link_text, message_text, messages_text, size_of, way_of, way_text};
-ghost use Rattle.nas_script.specs.Told.{tolds_of};
+ghost use Rattle.nas_script.specs.Ends.{are_several};
+ghost use Rattle.nas_script.specs.MessageTexts.{count_on, link_of, link_text, log_size, message_text, messages_text, size_on, way_of, way_text};
 
 use crate::append::append;
 use nas_base::Memory;
 use nas_security::Send;
-use nas_world::{Event, World};
+use nas_world::{Event, SentLog, World};
 use std::alloc::Global;
 
 /// What an event makes speak.
@@ -38,25 +38,23 @@ pub fn way_of(event: &Event) -> Way
     }
 }
 
-/// Appends the lines of messages, which were sent last in this world, in the order in which they were sent. There are so many handsets;
-/// where there are several, the links are told.
+/// Appends the lines of messages, which were sent last in this world, in the order in which they were sent. Where there are several
+/// handsets, the links are told.
 pub fn append_messages(
     alloc: Global,
     text: &mut Vec<u8>,
-    several: bool,
     way: Way,
     world: &World,
-    count: usize,
     sends: &[Send],
 ) -> Result<(), Memory>
-    requires { count ≡ length (tolds_of world.now) }
-    ensures { OnOk result (text.new.items ≡ text.old.items ++ messages_text several way (tolds_of world.now) sends.now) }
+    ensures { OnOk result (text.new.items ≡ text.old.items ++ messages_text (are_several world.now) way world.now.sent sends.now) }
 {
+    let several = world.count() > 1;
     for at in 0..sends.len() {
         let send = &sends[at];
         let link = link_of(way, send);
         let later = count_on(way, link, &sends[at + 1..]);
-        let number = size_of(way, link, world, count).saturating_sub(later);
+        let number = size_on(way, link, world).saturating_sub(later);
         append_message(alloc, text, several, way, link, number, send)?;
     }
     Ok(())
@@ -138,17 +136,22 @@ fn count_on(way: Way, link: u16, sends: &[Send]) -> usize
     count
 }
 
-// How many messages there are in the log of a link, where there are so many handsets.
-fn size_of(way: Way, link: u16, world: &World, count: usize) -> usize
-    requires { count ≡ length (tolds_of world.now) }
-    ensures { result ≡ size_of way link (tolds_of world.now) }
+// How many messages there are in the log of a link.
+fn size_on(way: Way, link: u16, world: &World) -> usize
+    ensures { result ≡ size_on way link world.now.sent }
 {
-    if link == 0 || count < link as usize || 16 < link {
+    if link == 0 || world.count() as u16 < link {
         return 0;
     }
-    let sent = world.sent(link as u8);
+    log_size(way, world.sent(link as u8))
+}
+
+// How many messages there are in a log, in this direction.
+fn log_size(way: Way, log: &SentLog) -> usize
+    ensures { result ≡ log_size way log.now }
+{
     match way {
-        Way::Up(_) => sent.up.as_slice().len(),
-        Way::Down => sent.down.as_slice().len(),
+        Way::Up(_) => log.up.as_slice().len(),
+        Way::Down => log.down.as_slice().len(),
     }
 }
