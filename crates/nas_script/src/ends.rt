@@ -1,8 +1,8 @@
 //! The lines of both ends.
-ghost use Rattle.std.specs.Prelude.{◌≡◌, ◌≤◌, ◌++◌, length, IfSome, OnOk};
-ghost use Rattle.nas_world.specs.Logs.{sent_at};
-ghost use Rattle.nas_script.specs.Told.{AreOf, tolds_of};
-ghost use Rattle.nas_script.specs.Ends.{ends_text, handset_text, handsets_text, number_line, amf_text, connection_text, context_text, guti_text, kept_text, ksi_text, mm_text, net_text, others_text, subscriber_text, tmsi_text, ue_text};
+ghost use Rattle.std.specs.Prelude.{◌≡◌, ◌++◌, true, length, map, OnOk};
+ghost use Rattle.nas_world.specs.Numbered.{is_number};
+ghost use Rattle.nas_world.specs.State.{supi_of};
+ghost use Rattle.nas_script.specs.Ends.{ends_text, handset_text, handsets_up_to, number_line, numbered_text, amf_text, connection_text, context_text, guti_text, kept_text, ksi_text, mm_text, net_text, others_text, subscriber_text, tmsi_text, ue_text};
 
 use crate::append::append;
 use crate::session_lines::append_sessions;
@@ -10,6 +10,8 @@ use amf_core::{KeptGuti, NetView};
 use byteorder::{BigEndian, ByteOrder};
 use nas_base::{AmfWord, Memory, MmWord, Supi};
 use nas_elements::Guti;
+use nas_handset::Handset;
+use nas_network::Network;
 use nas_security::Context;
 use nas_world::{Handsets, World};
 use std::alloc::Global;
@@ -23,14 +25,14 @@ pub fn append_ends(
     handsets: &Handsets,
     world: &World,
 ) -> Result<(), Memory>
-    requires { AreOf handsets.now (tolds_of world.now) }
-    ensures { OnOk result (text.new.items ≡ text.old.items ++ ends_text world.now.network (tolds_of world.now)) }
+    requires { world.now.supis ≡ map supi_of handsets.now }
+    ensures { OnOk result (text.new.items ≡ text.old.items ++ ends_text world.now) }
 {
     let handsets = handsets.as_slice();
-    if handsets.len() > 1 {
+    if world.count() > 1 {
         append_handsets(alloc, text, handsets, world)
     } else {
-        append_handset(alloc, text, 1, &handsets[0].supi, world)
+        append_numbered(alloc, text, 1, handsets, world)
     }
 }
 
@@ -41,43 +43,54 @@ fn append_handsets(
     handsets: &[HandsetConfig],
     world: &World,
 ) -> Result<(), Memory>
-    requires limit { length handsets.now ≤ 16 }
-    requires configured { AreOf handsets.now (tolds_of world.now) }
-    ensures { OnOk result (text.new.items ≡ text.old.items ++ handsets_text world.now.network 1 (tolds_of world.now)) }
+    requires { world.now.supis ≡ map supi_of handsets.now }
+    ensures { OnOk result (text.new.items ≡ text.old.items ++ handsets_up_to (length world.now.handsets) world.now) }
 {
-    for at in 0..handsets.len() {
-        let number = (at + 1) as u8;
-        append_number(alloc, text, number)?;
-        append_handset(alloc, text, number, &handsets[at].supi, world)?;
+    for who in 1..world.count() + 1 {
+        append_number(alloc, text, who)?;
+        append_numbered(alloc, text, who, handsets, world)?;
     }
     Ok(())
 }
 
 // Appends the line of a handset's number.
 #[tactic(auto, unfolding(crate::specs::Ends::number_line))]
-fn append_number(alloc: Global, text: &mut Vec<u8>, number: u8) -> Result<(), Memory>
-    ensures { OnOk result (text.new.items ≡ text.old.items ++ number_line number) }
+fn append_number(alloc: Global, text: &mut Vec<u8>, who: u8) -> Result<(), Memory>
+    ensures { OnOk result (text.new.items ≡ text.old.items ++ number_line who) }
 {
-    let Ok(line) = format!(in alloc; "  handset {number}\n") else {
+    let Ok(line) = format!(in alloc; "  handset {who}\n") else {
         return Err(Memory);
     };
     append(text, line.as_bytes())
 }
 
+// Appends the lines of the handset of a number, which is there.
+fn append_numbered(
+    alloc: Global,
+    text: &mut Vec<u8>,
+    who: u8,
+    handsets: &[HandsetConfig],
+    world: &World,
+) -> Result<(), Memory>
+    requires there { is_number who world.now.handsets ≡ true }
+    requires supis { world.now.supis ≡ map supi_of handsets.now }
+    ensures { OnOk result (text.new.items ≡ text.old.items ++ numbered_text who world.now) }
+{
+    let supi = &handsets[usize::from(who) - 1].supi;
+    append_handset(alloc, text, supi, world.handset(who), world.network())
+}
+
 // Appends the lines of a handset, of its subscriber, and of its sessions at both.
+#[tactic(auto, unfolding(crate::specs::Ends::handset_text))]
 fn append_handset(
     alloc: Global,
     text: &mut Vec<u8>,
-    number: u8,
     supi: &Supi,
-    world: &World,
+    handset: &Handset,
+    network: &Network,
 ) -> Result<(), Memory>
-    requires there { (1 ≤ number) × (number ≤ length (tolds_of world.now)) }
-    requires own { IfSome (sent_at number (tolds_of world.now)) (λ t. t.supi ≡ supi.now) }
-    ensures { OnOk result (IfSome (sent_at number (tolds_of world.now)) (λ t. text.new.items ≡ text.old.items ++ handset_text world.now.network t)) }
+    ensures { OnOk result (text.new.items ≡ text.old.items ++ handset_text network.now supi.now handset.now) }
 {
-    let handset = world.handset(number);
-    let network = world.network();
     append_ue(alloc, text, &handset.view())?;
     append_net(alloc, text, &network.view(supi))?;
     append_sessions(alloc, text, supi, handset, network)

@@ -1,8 +1,7 @@
 //! The lines of one event.
-ghost use Rattle.std.specs.Prelude.{◌≡◌, ◌++◌, OnOk};
+ghost use Rattle.std.specs.Prelude.{◌≡◌, ◌++◌, map, OnOk};
 ghost use Rattle.nas_world.specs.Agree.{agree};
-ghost use Rattle.nas_world.specs.State.{honest};
-ghost use Rattle.nas_script.specs.Told.{AreOf, tolds_of};
+ghost use Rattle.nas_world.specs.State.{honest, supi_of};
 ghost use Rattle.nas_script.specs.Transcript.{end_text, event_text, line_text, nothing_text, refusal_text, refused_text, verdict_text, word_of, world_text};
 
 use crate::append::append;
@@ -100,7 +99,7 @@ fn append_world(
     handsets: &Handsets,
     world: &World,
 ) -> Result<(), Memory>
-    requires { AreOf handsets.now (tolds_of world.now) }
+    requires { world.now.supis ≡ map supi_of handsets.now }
     ensures { OnOk result (text.new.items ≡ text.old.items ++ world_text world.now) }
 {
     append_ends(alloc, text, handsets, world)?;
@@ -118,21 +117,12 @@ pub fn append_event(
     world: &World,
     seen: &Seen,
 ) -> Result<(), Memory>
-    requires { AreOf handsets.now (tolds_of world.now) }
+    requires { world.now.supis ≡ map supi_of handsets.now }
     ensures { OnOk result (text.new.items ≡ text.old.items ++ event_text number line.now world.now seen.now) }
 {
-    let count = handsets.as_slice().len();
     let way = way_of(&line.event);
     append_line(alloc, text, number, line.text.as_slice())?;
-    append_messages(
-        alloc,
-        text,
-        count > 1,
-        way,
-        world,
-        count,
-        seen.sends.as_slice(),
-    )?;
+    append_messages(alloc, text, way, world, seen.sends.as_slice())?;
     append_refused(text, &seen.refused)?;
     append_nothing(text, seen.nothing)?;
     append_world(alloc, text, handsets, world)

@@ -1,9 +1,9 @@
 //! The transcript.
-ghost use Rattle.std.specs.Prelude.{◌≡◌, ◌+◌, OnOk};
+ghost use Rattle.std.specs.Prelude.{◌≡◌, ◌+◌, map, OnOk};
 ghost use Rattle.nas_base.specs.Outside.{Tells};
 ghost use Rattle.nas_world.specs.Events.{step_of};
 ghost use Rattle.nas_script.specs.Fault.{is_output};
-ghost use Rattle.nas_script.specs.Told.{AreOf, tolds_of};
+ghost use Rattle.nas_world.specs.State.{supi_of};
 ghost use Rattle.nas_script.specs.Transcript.{end_text, event_text, head_text, transcript_of};
 
 use crate::event_text::{append_end, append_event};
@@ -80,7 +80,7 @@ fn write_head<O: Sink>(alloc: Global, several: bool, out: &mut O) -> Result<(), 
 }
 
 // Makes an event happen, and writes its lines.
-#[tactic(auto, using(crate::proofs::WorldLaws::keeps_handsets))]
+#[tactic(auto, using(crate::proofs::WorldLaws::keeps_supis))]
 fn write_event<O: Sink>(
     alloc: Global,
     number: u32,
@@ -89,7 +89,7 @@ fn write_event<O: Sink>(
     world: &mut World,
     out: &mut O,
 ) -> Result<(), TranscriptFault>
-    requires { AreOf handsets.now (tolds_of world.old) }
+    requires { world.old.supis ≡ map supi_of handsets.now }
     ensures text { Tells is_output (O.written out.old) (O.written out.new) (O.fault_count out.old) (O.fault_count out.new)
         (event_text number line.now (step_of world.old line.now.event).0 (step_of world.old line.now.event).1) result }
     ensures world { OnOk result (world.new ≡ (step_of world.old line.now.event).0) }

@@ -1,5 +1,5 @@
 -- Each write tells a front of the transcript, and what tells the rest tells the whole.
-use Rattle.std.proofs.Common.{◌∙◌, ◌+◌, ap, refl, subst, sym, List, ℕ, is_ok, drop, length, ltb, map}
+use Rattle.std.proofs.Common.{◌∙◌, ◌+◌, ap, refl, subst, sym, List, ℕ, is_ok, drop, length, ltb}
 use Rattle.std.proofs.lemmas.List.{drop_all}
 use Rattle.std.proofs.lemmas.Result.{err_from_is_err_and}
 use Rattle.nas_base.specs.Outside.{Tells}
@@ -7,10 +7,9 @@ use Rattle.nas_base.proofs.SinkLaws.{tells_after, tells_front}
 use Rattle.nas_world.specs.Events.{step_of}
 use Rattle.nas_world.specs.State.{WorldState, first}
 use Rattle.nas_script.specs.Fault.{is_output}
-use Rattle.nas_script.specs.Told.{told_supi, tolds_of}
 use Rattle.nas_script.specs.Transcript.{events_text, head_text}
 use Rattle.nas_script.proofs.TranscriptLaws.{transcript_from, events_text-drop}
-use Rattle.nas_script.proofs.WorldLaws.{first_handsets, keeps_handsets}
+use Rattle.nas_script.proofs.WorldLaws.{keeps_supis}
 use Rattle.nas_script.proofs.telling.transcript.Goals as goal
 
 pub returns-in_err-write_head : goal.returns-in_err-write_head
@@ -22,7 +21,7 @@ returns-in_err-write_head g c =
 pub loop-line-init : goal.loop-line-init
 loop-line-init g c = record {
   count = refl;
-  handsets = ap (λ (w : WorldState). map told_supi (tolds_of w)) c.in_ok-world.ensures ∙ first_handsets c.args.config.now;
+  supis = ap (λ (w : WorldState). w.supis) c.in_ok-world.ensures;
   told = λ new now r rest.
       let whole = transcript_from c.args.config.now c.in_ok-world.world c.deref-line-items.result.now c.args.script.now c.in_ok-world.ensures (c.deref-line-items.ensures.value ∙ c.script.view_is) in
       subst (λ (t : List ℕ). Tells is_output (g.O.Sink.written c.args.out.now) new (g.O.Sink.fault_count c.args.out.now) now t r) whole
@@ -41,7 +40,7 @@ returns-in_err-write_event g c =
 pub loop-line-preserved : goal.loop-line-preserved
 loop-line-preserved g c = record {
   count = ap (λ n. n + 1) c.loop-line.invariant.count;
-  handsets = ap (λ (w : WorldState). map told_supi (tolds_of w)) c.in_ok-write_event.ensures.world ∙ keeps_handsets c.loop-line.world c.line-item.result.event ∙ c.loop-line.invariant.handsets;
+  supis = ap (λ (w : WorldState). w.supis) c.in_ok-write_event.ensures.world ∙ keeps_supis c.loop-line.world c.line-item.result.event ∙ c.loop-line.invariant.supis;
   told = λ new now r rest.
       let later = events_text-drop c.loop-line.number c.loop-line.world c.write_event.new.world c.deref-line-items.result.now c.loop-line.line-index c.line-item.result c.loop-line-test.true c.line-item.is c.in_ok-write_event.ensures.world in
       c.loop-line.invariant.told new now r
