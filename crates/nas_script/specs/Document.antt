@@ -1,5 +1,5 @@
 -- A TOML document: the data that a text has, and what stands under its keys.
-use Rattle.std.specs.Prelude.{ℕ, ℤ, pos, negsuc, Bool, List, [], ◌∷◌, length, nat_le, ◌&&◌, Option, Some, None, option_map, is_some, if◌then◌else◌}
+use Rattle.std.specs.Prelude.{ℕ, ℤ, pos, negsuc, Bool, List, [], ◌∷◌, length, nat_le, ◌&&◌, Option, Some, None, option_map, is_none, is_some, if◌then◌else◌}
 use Rattle.std.specs.Option.{option_and_then}
 use Rattle.std.specs.List.{list_all}
 use Rattle.std.specs.Str.{is_utf8}
@@ -62,9 +62,5 @@ tables_at most key d = option_and_then (only_tables most) (entries_at key d)
 abbrev pub few_tables : ℕ → List Data → Option (List Data)
 few_tables most ds = if nat_le (length ds) most && list_all is_table ds then Some ds else None
 
-abbrev pub tables_if_there : ℕ → Option Data → Option (List Data)
-tables_if_there most None = Some []
-tables_if_there most (Some found) = option_and_then (few_tables most) (option_map list_of (as_array found))
-
 abbrev pub few_tables_at : ℕ → List ℕ → Data → Option (List Data)
-few_tables_at most key d = tables_if_there most (get key d)
+few_tables_at most key d = if is_none (get key d) then Some [] else option_and_then (few_tables most) (entries_at key d)

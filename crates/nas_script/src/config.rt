@@ -1,7 +1,7 @@
 //! The configuration.
 ghost use Rattle.std.specs.Prelude.{◌≡◌, Some, IfOk};
 ghost use Rattle.toml.specs.View.{view};
-ghost use Rattle.nas_script.specs.Config.{config_in, configured};
+ghost use Rattle.nas_script.specs.Config.{config_in, configured, handsets_of, net_in};
 ghost use Rattle.nas_script.specs.Reads.{Reads, named};
 
 use crate::Key;
@@ -12,7 +12,8 @@ use crate::network_table::read_network;
 use crate::subscribers::read_subscribers;
 use crate::timers_table::read_durations;
 use nas_base::Memory;
-use nas_world::WorldConfig;
+use nas_network::NetConfig;
+use nas_world::{Handsets, WorldConfig};
 use std::alloc::Global;
 use thiserror::Error;
 use toml::Value;
@@ -67,15 +68,33 @@ pub fn needed<T: Drop>(key: Key, value: Option<T>) -> Result<T, ConfigRefusal>
 fn read_document(alloc: Global, document: &Value) -> Result<WorldConfig, ConfigRefusal>
     ensures { Reads (λ config. config) result (configured (view document.now)) }
 {
+    let net = read_net(alloc, document)?;
+    let handsets = read_all_handsets(alloc, &net, document)?;
+    Ok(WorldConfig { net, handsets })
+}
+
+// The network, with its subscribers.
+#[tactic(auto, unfolding(crate::specs::Config::net_in))]
+fn read_net(alloc: Global, document: &Value) -> Result<NetConfig, ConfigRefusal>
+    ensures { Reads (λ net. net) result (net_in (view document.now)) }
+{
     let network = read_network(needed(Key::Network, table_of("network", document))?)?;
     let durations = read_durations(document)?;
     let kinds = read_kinds(alloc, &network.pool6, document)?;
     let tables = needed(Key::Subscriber, tables_of(64, "subscriber", document))?;
     let subscribers = read_subscribers(alloc, &network.plmn, tables)?;
+    Ok(network.with(durations, kinds, subscribers))
+}
+
+// The handsets of this network.
+#[tactic(auto, unfolding(crate::specs::Config::handsets_of))]
+fn read_all_handsets(
+    alloc: Global,
+    net: &NetConfig,
+    document: &Value,
+) -> Result<Handsets, ConfigRefusal>
+    ensures { Reads (λ handsets. handsets) result (handsets_of net.now (view document.now)) }
+{
     let tables = needed(Key::Handset, tables_of(16, "handset", document))?;
-    let handsets = read_handsets(alloc, &network.plmn, durations, tables)?;
-    Ok(WorldConfig {
-        net: network.with(durations, kinds, subscribers),
-        handsets,
-    })
+    read_handsets(alloc, &net.plmn, net.durations, tables)
 }

@@ -1,5 +1,5 @@
 //! TOML documents, and what stands under their keys.
-ghost use Rattle.std.specs.Prelude.{◌≡◌, ◌≤◌, true, ◌&&◌, map, option_map, IfSome};
+ghost use Rattle.std.specs.Prelude.{◌≡◌, ◌≤◌, true, ◌&&◌, length, map, option_map, IfSome};
 ghost use Rattle.toml.specs.View.{view};
 ghost use Rattle.nas_script.specs.Document.{between, document_in, entries_at, few_tables, few_tables_at, integer_at, is_table, number_at, table_at, tables_at, text_at};
 ghost use Rattle.nas_script.specs.Reads.{Reads, named};
@@ -82,7 +82,8 @@ pub fn table_of<'a>(key: &str, value: &'a Value) -> Option<&'a Value>
 
 /// The one to `most` tables under a key.
 pub fn tables_of<'a>(most: usize, key: &str, value: &'a Value) -> Option<&'a [Value]>
-    ensures { option_map (λ vs. map view vs.now) result ≡ tables_at most key.now (view value.now) }
+    ensures value { option_map (λ vs. map view vs.now) result ≡ tables_at most key.now (view value.now) }
+    ensures limits { IfSome result (λ vs. (1 ≤ length vs.now) × (length vs.now ≤ most)) }
 {
     let entries = entries_of(key, value)?;
     if entries.is_empty() || most < entries.len() {
@@ -107,17 +108,19 @@ pub fn entries_of<'a>(key: &str, value: &'a Value) -> Option<&'a [Value]>
 
 /// The tables under a key, `most` at most, which may be left out.
 pub fn few_tables_of<'a>(most: usize, key: &str, value: &'a Value) -> Option<&'a [Value]>
-    ensures { option_map (λ vs. map view vs.now) result ≡ few_tables_at most key.now (view value.now) }
+    ensures value { option_map (λ vs. map view vs.now) result ≡ few_tables_at most key.now (view value.now) }
+    ensures limit { IfSome result (λ vs. length vs.now ≤ most) }
 {
-    match value.get(key) {
-        None => Some(&[]),
-        Some(found) => few_tables(most, found.as_array()?.as_slice()),
+    if value.get(key).is_none() {
+        return Some(&[]);
     }
+    few_tables(most, entries_of(key, value)?)
 }
 
 // These entries, where they are tables, and `most` at most.
 fn few_tables(most: usize, entries: &[Value]) -> Option<&[Value]>
-    ensures { option_map (λ vs. map view vs.now) result ≡ few_tables most (map view entries.now) }
+    ensures value { option_map (λ vs. map view vs.now) result ≡ few_tables most (map view entries.now) }
+    ensures limit { IfSome result (λ vs. length vs.now ≤ most) }
 {
     if most < entries.len() || !all_tables(entries) {
         return None;

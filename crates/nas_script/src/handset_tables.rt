@@ -1,5 +1,6 @@
 //! The tables of the handsets.
-ghost use Rattle.std.specs.Prelude.{◌≡◌, ◌≤◌, [], ◌∷◌, ◌++◌, false, length, map, IfOk, IfSome, OnOk};
+ghost use Rattle.std.specs.Prelude.{◌≡◌, ◌≤◌, [], ◌∷◌, ◌++◌, true, false, length, map, IfOk, IfSome, OnOk};
+ghost use Rattle.nas_base.specs.Supi.{is_of_plmn};
 ghost use Rattle.toml.specs.View.{view};
 ghost use Rattle.nas_world.specs.Config.{is_handset_of};
 ghost use Rattle.nas_script.specs.HandsetTables.{handset_in, handsets_in, other_supi_at};
@@ -75,7 +76,7 @@ fn read_handset(
 #[tactic(auto, unfolding(crate::specs::HandsetTables::other_supi_at))]
 fn other_supi_of(plmn: &Plmn, before: &[HandsetConfig], table: &Value) -> Option<Supi>
     ensures value { result ≡ other_supi_at plmn.now before.now (view table.now) }
-    ensures fact { IfSome result (λ supi. is_handset_of supi before.now ≡ false) }
+    ensures fact { IfSome result (λ supi. (is_of_plmn plmn.now supi ≡ true) × (is_handset_of supi before.now ≡ false)) }
 {
     let supi = supi_of(plmn, table)?;
     if is_handset_of(&supi, before) {

@@ -71,6 +71,7 @@ fn read_lines(alloc: Global, octets: &[u8]) -> Result<Vec<ScriptLine>, ScriptRef
 }
 
 // Reads one more line, of this number.
+#[tactic(auto, using(crate::proofs::ScriptLaws::is_event_line, crate::proofs::ScriptLaws::is_no_event_line))]
 fn read_one_more(
     alloc: Global,
     items: &mut Vec<ScriptLine>,
