@@ -94,7 +94,7 @@ handset_text n supi h = ue_text (view_of h.mm) ++ (net_text (view_in supi n.amf)
 abbrev pub numbered_text : ℕ → WorldState → List ℕ
 numbered_text who w =
     per (numbered who w.handsets) [] (λ (h : HandsetState).
-      per (numbered who w.supis) [] (λ (supi : List ℕ). handset_text w.network supi h))
+    per (numbered who w.supis) [] (λ (supi : List ℕ). handset_text w.network supi h))
 
 -- where there are several, each handset stands under a line of its number
 unfoldable pub number_line : ℕ → List ℕ

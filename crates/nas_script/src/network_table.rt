@@ -8,7 +8,8 @@ ghost use Rattle.nas_script.specs.Reads.{Reads};
 
 use crate::config::needed;
 use crate::fields::{
-    ambr_of, ciphering_of, octets_of, plmn_of, pool6_of, pool6_size_of, pool_of, pool_size_of, t3512_of, tmsi_of,
+    ambr_of, ciphering_of, octets_of, plmn_of, pool_of, pool_size_of, pool6_of, pool6_size_of,
+    t3512_of, tmsi_of,
 };
 use crate::{ConfigRefusal, Key};
 use byteorder::{BigEndian, ByteOrder};

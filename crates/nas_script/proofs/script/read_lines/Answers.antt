@@ -10,6 +10,3 @@ loop-octet-init c = record {
   counted = nothing_counted c.new-items.result.items c.new-line.result.items c.args.octets.now c.new-items.ensures.items c.new-line.ensures.items;
   told = nothing_read c.new-items.result.items c.new-line.result.items c.args.octets.now c.new-items.ensures.items c.new-line.ensures.items;
 }
-
-pub loop-octet-preserved : goal.loop-octet-preserved
-loop-octet-preserved c = ?
