@@ -4,10 +4,12 @@ use Rattle.amf_core.specs.State.{AmfState, subscriber_in}
 use Rattle.amf_core.specs.Step.{Stepped}
 use Rattle.amf_core.specs.declared.inputs.AmfInput.{AmfInput}
 use Rattle.amf_core.specs.declared.inputs.AmfRefusal.{AmfRefusal}
+use Rattle.amf_laws.specs.Consistency.{AreConsistent, StayConsistent}
 use Rattle.amf_laws.specs.Kept.{StayFew, SupisStay, supis}
 use Rattle.amf_laws.specs.OwnTimers.{AreOwn, TimersAreOfProcedures}
 use Rattle.amf_laws.specs.Timers.{AreDistinct, FitProcedures, Running, StayDistinct, TimersFit, expired_by, taken_by}
 use Rattle.amf_laws.specs.Timers as laws
+use Rattle.amf_laws.proofs.ConsistencyLaws.{records_stay_consistent}
 use Rattle.amf_laws.proofs.KeptLaws.{kept_lists_have_two_at_most}
 use Rattle.amf_laws.proofs.OwnTimerLaws.{timers_are_of_procedures}
 use Rattle.amf_laws.proofs.SupiLaws.{same_subscribers_are_kept}
@@ -44,6 +46,7 @@ pub record Lawful (a : AmfState) (input : AmfInput) (s : Stepped) : Type 0 where
   pub distinct : StayDistinct a (Ok s)
   pub supis : SupisStay a (Ok s)
   pub few : StayFew a (Ok s)
+  pub consistent : StayConsistent a (Ok s)
   pub own : AreOwn s.outs
 
 pub lawful : (rand : List ℕ) (input : AmfInput) (t : Turn) (s : Stepped) → stepped rand input t ≡ Ok s → Lawful t.network.amf input s
@@ -54,6 +57,7 @@ lawful rand input t s step =
       distinct = subst (λ (r : Result Stepped AmfRefusal). StayDistinct n.amf r) step (subscribers_stay_distinct n.amf n.home n.moment rand input);
       supis = subst (λ (r : Result Stepped AmfRefusal). SupisStay n.amf r) step (same_subscribers_are_kept n.amf n.home n.moment rand input);
       few = subst (λ (r : Result Stepped AmfRefusal). StayFew n.amf r) step (kept_lists_have_two_at_most n.amf n.home n.moment rand input);
+      consistent = subst (λ (r : Result Stepped AmfRefusal). StayConsistent n.amf r) step (records_stay_consistent n.amf n.home n.moment rand input);
       own = subst (λ (r : Result Stepped AmfRefusal). TimersAreOfProcedures r) step (timers_are_of_procedures n.amf n.home n.moment rand input);
     }
 
@@ -81,6 +85,7 @@ onto_placed n input s t b law =
       known = ap (λ (m : SmfState). smf_laws.supis m.subscribers) smf_stays ∙ b.placed.known ∙ sym b.same ∙ sym (all_timed s.outs next);
       few = subst (λ (a : AmfState). all_keep_few a.subscribers ≡ true) stays
           (all_keep s.amf.subscribers (law.few (each_keeps_few n.amf.subscribers b.placed.few)));
+      consistent = subst (λ (a : AmfState). AreConsistent a.subscribers) stays (law.consistent b.placed.consistent);
       sessions = subst (λ (m : SmfState). AreSessions m) (sym smf_stays) b.placed.sessions;
     }
 

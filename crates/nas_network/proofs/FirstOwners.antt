@@ -21,6 +21,7 @@ use Rattle.amf_laws.specs.Kept.{supis}
 use Rattle.nas_network.specs.Owners.{FitCommands, HaveOwners, commands_for, commands_of, running_for, running_of, timed}
 use Rattle.nas_network.specs.State.{first, no_timers, timers_of}
 use Rattle.nas_network.proofs.Beginnings.{subscribed_once}
+use Rattle.amf_laws.proofs.ConsistencyLaws.{unknown_are_consistent}
 use Rattle.nas_network.proofs.Few.{first_keep}
 
 none_has : (s : AmfSubscriber) (others : List AmfSubscriber) → not (has_same_supi s others) ≡ true
@@ -99,6 +100,7 @@ first_owned config h sessions = record {
     same = first_same config.subscribers;
     known = first_known config.subscribers;
     few = first_keep (at_amf config.subscribers);
+    consistent = unknown_are_consistent (at_amf config.subscribers);
     sessions = sessions;
   };
   commands = first_commands config;

@@ -51,6 +51,7 @@ timers_placed n ss placed same runs = record {
   same = same ∙ placed.same;
   known = placed.known ∙ sym same;
   few = placed.few;
+  consistent = placed.consistent;
   sessions = placed.sessions;
 }
 
@@ -193,6 +194,7 @@ smf_owned rand supi input t s b served named step =
       same = b.placed.same;
       known = law.known ∙ b.placed.known;
       few = b.placed.few;
+      consistent = b.placed.consistent;
       sessions = law.sessions;
     } in
     let still : is_subscriber supi s.smf ≡ true =

@@ -74,6 +74,7 @@ told_owned moment n owned = record {
     same = owned.placed.same;
     known = owned.placed.known;
     few = owned.placed.few;
+    consistent = owned.placed.consistent;
     sessions = owned.placed.sessions;
   };
   commands = owned.commands;

@@ -40,12 +40,7 @@ impl World {
 
     /// The network is given a command about a handset's subscriber.
     #[tactic(auto, using(crate::proofs::Outcomes::refused_by_network), unfolding(crate::specs::Events::ordered, nas_base::specs::Branches::per))]
-    pub(crate) fn order(
-        &mut self,
-        alloc: Global,
-        who: u8,
-        order: &NetOrder,
-    ) -> Result<Seen, Memory>
+    pub(crate) fn order(&mut self, alloc: Global, who: u8, order: &NetOrder) -> Result<Seen, Memory>
         ensures ok { IfOk result (λ seen. ordered who order.now self.old ≡ (self.new, seen)) }
         ensures err { OnErr result (self.new ≡ self.old) }
     {

@@ -30,28 +30,56 @@ pub enum NetOrder {
 #[derive(Drop)]
 pub enum Event {
     /// A handset is given a command.
-    Command { who: u8, command: UeCommand },
+    Command {
+        who: u8,
+        command: UeCommand,
+    },
     /// The network is given a command about a handset's subscriber.
-    NetCommand { who: u8, order: NetOrder },
+    NetCommand {
+        who: u8,
+        order: NetOrder,
+    },
     /// The handset's uplink of number `k`, counted from 1, is delivered to the network: as often and in whatever order, and as fresh as it
     /// was sent.
-    ToNet { who: u8, k: u32 },
+    ToNet {
+        who: u8,
+        k: u32,
+    },
     /// The link's downlink of number `k`, counted from 1, is delivered to the handset.
-    ToUe { who: u8, k: u32 },
+    ToUe {
+        who: u8,
+        k: u32,
+    },
     /// Octets that nobody need have sent reach the network on a link, as the first of a connection where `fresh`.
-    InjectNet { who: u8, fresh: bool, octets: Octets },
+    InjectNet {
+        who: u8,
+        fresh: bool,
+        octets: Octets,
+    },
     /// Octets that nobody need have sent reach a handset.
-    InjectUe { who: u8, octets: Octets },
+    InjectUe {
+        who: u8,
+        octets: Octets,
+    },
     /// A handset is told the moment.
-    UeAt { who: u8, at: Moment },
+    UeAt {
+        who: u8,
+        at: Moment,
+    },
     /// The network is told the moment.
     NetAt(Moment),
     /// A handset loses its connection.
-    DropUe { who: u8 },
+    DropUe {
+        who: u8,
+    },
     /// The network loses a link.
-    DropNet { who: u8 },
+    DropNet {
+        who: u8,
+    },
     /// A handset is switched off and on.
-    Restart { who: u8 },
+    Restart {
+        who: u8,
+    },
     /// The random octets that the network takes from now on.
     Random([u8; 16]),
 }

@@ -48,12 +48,7 @@ impl Judged {
     ///
     /// `Memory`.
     #[tactic(auto, unfolding(crate::specs::Honest::all_honest))]
-    pub fn new(
-        alloc: Global,
-        links: usize,
-        plmn: Plmn,
-        cards: Vec<Card>,
-    ) -> Result<Judged, Memory>
+    pub fn new(alloc: Global, links: usize, plmn: Plmn, cards: Vec<Card>) -> Result<Judged, Memory>
         ensures { IfOk result (λ judged. judged ≡ record { sent = replicate links nothing_sent; passes = []; plmn = plmn; cards = cards.items }) }
     {
         let sent = Sent::new(alloc, links)?;

@@ -24,12 +24,7 @@ pub fn keys_agree(
 }
 
 // Whether the network's context is one that the handset took into use, and the handset's own fits it.
-fn key_agrees(
-    taken: &TakenContexts,
-    who: u8,
-    current: &Option<Context>,
-    net: &Context,
-) -> bool
+fn key_agrees(taken: &TakenContexts, who: u8, current: &Option<Context>, net: &Context) -> bool
     ensures { result ≡ key_agrees taken.now who current.now net.now }
 {
     taken.has(who, net) && current_fits(current, net)

@@ -284,11 +284,7 @@ fn cut_downs(logs: &mut [SentLog], sizes: &[usize])
 }
 
 // The index of downlinks that go down one of so many links.
-fn index_on_links(
-    alloc: Global,
-    links: usize,
-    sends: &Sends,
-) -> Result<IndexSet<SentKey>, Memory>
+fn index_on_links(alloc: Global, links: usize, sends: &Sends) -> Result<IndexSet<SentKey>, Memory>
     ensures { IfOk result (λ index. Says key.ghosts.eq index (on_links links sends.now)) }
 {
     let mut index = IndexSet::new(alloc);

@@ -5,9 +5,9 @@ ghost use Rattle.nas_world.specs.Logs.{also};
 ghost use Rattle.nas_world.specs.Taken.{Finds, taken_by, taken_key, was_taken};
 ghost use Rattle.nas_world.specs.contracts.taken.TakenKeyPartialEq.TheImpl as key;
 
-use crate::{Taken, TakenLog};
 use crate::honesty::Judged;
 use crate::passes::Heard;
+use crate::{Taken, TakenLog};
 use indexmap::IndexSet;
 use nas_base::Memory;
 use nas_security::Context;
